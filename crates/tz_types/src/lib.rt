@@ -1,6 +1,44 @@
-//! The types that every other crate speaks of.
+//! The types that every other crate speaks of: texts, days, rules, zones, links, leap dates and ranges.
+//!
+//! Each type keeps its ranges and orders itself, so that the layers above need no tests of their own.
+//! Years are proleptic Gregorian, instants and amounts are whole seconds from 1970-01-01 00:00:00.
+//! The crate stands on `jiff_core` for civil days and on `arrayvec` for texts of fixed room.
 #![tactic(auto)]
 
+mod calendar;
+mod counter;
+mod database;
+mod fault;
+mod format;
+mod leap_dates;
+mod link;
+mod list;
 mod memory;
+mod moment;
+mod range;
+mod rule;
+mod rule_set;
+mod shared;
+mod text;
+mod until;
+mod zone;
+mod zone_line;
 
+pub use calendar::{Month, On, Weekday, day_of};
+pub use counter::Steps;
+pub use database::Db;
+pub use fault::Fault;
+pub use format::Format;
+pub use leap_dates::Leaps;
+pub use link::Link;
+pub use list::Items;
 pub use memory::NoMemory;
+pub use moment::{AtKind, Moment, nominal};
+pub use range::{Choose, LocalInfo, SysInfo};
+pub use rule::Rule;
+pub use rule_set::RuleSet;
+pub use shared::Shared;
+pub use text::{Abbrev, Label, Letters, PrintableText, TextError, VersionText};
+pub use until::Until;
+pub use zone::Zone;
+pub use zone_line::{LineRules, ZoneLine};

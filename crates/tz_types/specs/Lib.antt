@@ -1,0 +1,8 @@
+pub mod Text
+pub mod Year
+pub mod Calendar
+pub mod Amount
+pub mod Format
+pub mod Saves
+pub mod Order
+pub mod Limit

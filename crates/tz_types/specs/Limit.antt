@@ -1,0 +1,26 @@
+-- How much a text may have.
+use Rattle.std.specs.Prelude.{ℕ}
+
+-- the rules of one set
+abbrev pub most_rules : ℕ
+most_rules = 512
+
+-- the rule sets of a text
+abbrev pub most_sets : ℕ
+most_sets = 1_024
+
+-- the zones of a text
+abbrev pub most_zones : ℕ
+most_zones = 1_024
+
+-- the lines of one zone
+abbrev pub most_lines : ℕ
+most_lines = 255
+
+-- the links of a text
+abbrev pub most_links : ℕ
+most_links = 4_096
+
+-- the leap dates of a leap text
+abbrev pub most_leaps : ℕ
+most_leaps = 1_024

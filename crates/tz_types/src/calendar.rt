@@ -1,0 +1,164 @@
+ghost use Rattle.std.specs.Prelude.{◌≡◌, ℕ, ◌+◌, ◌-◌, ◌<◌, ◌≤◌, pos, neg_ℤ, ◌+ℤ◌, ◌-ℤ◌, IsTrue};
+ghost use Rattle.std.specs.Int.{IsInRange};
+ghost use Rattle.jiff_core.specs.Calendar.{days_from_civil, days_in_month, weekday_number, IsBetween, IsEpochDay};
+ghost use Rattle.tz_types.specs.Year.{IsRuleYear};
+ghost use Rattle.tz_types.specs.Calendar.{month_number, monday_zero, has_day, is_day_up_to, longest_month, counted_day, on_or_after, on_or_before, day_number};
+
+use jiff_core::civil::{Date, days_in_month};
+
+/// A month of the Gregorian calendar.
+#[derive(Clone, Copy, Debug, PartialEq, Eq, Hash)]
+pub enum Month {
+    January,
+    February,
+    March,
+    April,
+    May,
+    June,
+    July,
+    August,
+    September,
+    October,
+    November,
+    December,
+}
+
+/// A day of the week.
+#[derive(Clone, Copy, Debug, PartialEq, Eq, Hash)]
+pub enum Weekday {
+    Sunday,
+    Monday,
+    Tuesday,
+    Wednesday,
+    Thursday,
+    Friday,
+    Saturday,
+}
+
+/// A day of a month, as zic(8) writes it: `5`, `lastSun`, `Sun>=8` or `Sun<=25`.
+#[derive(Clone, Copy, Debug, PartialEq, Eq, Hash)]
+pub enum On {
+    Day(u8),
+    Last(Weekday),
+    From(Weekday, u8),
+    UpTo(Weekday, u8),
+}
+
+impl Month {
+    /// January is 1, and December 12.
+    pub fn number(self) -> u8
+        ensures value { result ≡ month_number self }
+        ensures bound { IsInRange 1 12 result }
+    {
+        match self {
+            Month::January => 1,
+            Month::February => 2,
+            Month::March => 3,
+            Month::April => 4,
+            Month::May => 5,
+            Month::June => 6,
+            Month::July => 7,
+            Month::August => 8,
+            Month::September => 9,
+            Month::October => 10,
+            Month::November => 11,
+            Month::December => 12,
+        }
+    }
+}
+
+impl Weekday {
+    /// Monday is 0, and Sunday 6.
+    fn from_monday(self) -> u8
+        ensures value { result ≡ monday_zero self }
+        ensures bound { result < 7 }
+    {
+        match self {
+            Weekday::Sunday => 6,
+            Weekday::Monday => 0,
+            Weekday::Tuesday => 1,
+            Weekday::Wednesday => 2,
+            Weekday::Thursday => 3,
+            Weekday::Friday => 4,
+            Weekday::Saturday => 5,
+        }
+    }
+}
+
+/// The day number of a civil date, where 1970-01-01 is 0.
+fn civil_day(year: i32, month: Month, day: u8) -> i64
+    requires year_in { IsRuleYear year }
+    requires day_in { IsInRange 1 (days_in_month year (month_number month)) day }
+    ensures value { result ≡ days_from_civil year (month_number month) day }
+    ensures bound { IsEpochDay result }
+{
+    let date = Date {
+        year: year as i16,
+        month: month.number(),
+        day,
+    };
+    i64::from(date.to_unix_epoch_day())
+}
+
+/// Which day of the week a day number is, from 0 for Monday.
+#[tactic(auto, unfolding(jiff_core::specs::Calendar::weekday_number))]
+fn weekday_of(day: i64) -> u8
+    requires { IsBetween (neg_ℤ (pos 4_372_000)) (pos 2_933_000) day }
+    ensures value { result ≡ weekday_number day }
+    ensures bound { result < 7 }
+{
+    (day + 3).rem_euclid(7) as u8
+}
+
+/// How many days the month has in the year.
+fn month_length(year: i32, month: Month) -> u8
+    requires { IsRuleYear year }
+    ensures value { result ≡ days_in_month year (month_number month) }
+    ensures bound { IsInRange 28 31 result }
+{
+    days_in_month(year as i16, month.number())
+}
+
+/// Day `day` counted from the first of the month.
+fn counted(year: i32, month: Month, day: u8) -> i64
+    requires year_in { IsRuleYear year }
+    requires day_in { IsTrue (is_day_up_to (longest_month month) day) }
+    ensures value { result ≡ counted_day year month day }
+    ensures bound { IsBetween (neg_ℤ (pos 4_371_587)) (pos 2_932_926) result }
+{
+    civil_day(year, month, 1) + (i64::from(day) - 1)
+}
+
+/// The first such weekday on or after the day.
+fn first_from(weekday: Weekday, day: i64) -> i64
+    requires { IsBetween (neg_ℤ (pos 4_371_587)) (pos 2_932_926) day }
+    ensures value { result ≡ on_or_after weekday day }
+    ensures bound { IsBetween (neg_ℤ (pos 4_371_587)) (pos 2_932_932) result }
+{
+    day + i64::from((weekday.from_monday() + 7 - weekday_of(day)) % 7)
+}
+
+/// The last such weekday on or before the day.
+fn last_up_to(weekday: Weekday, day: i64) -> i64
+    requires { IsBetween (neg_ℤ (pos 4_371_587)) (pos 2_932_926) day }
+    ensures value { result ≡ on_or_before weekday day }
+    ensures bound { IsBetween (neg_ℤ (pos 4_371_593)) (pos 2_932_926) result }
+{
+    day - i64::from((weekday_of(day) + 7 - weekday.from_monday()) % 7)
+}
+
+/// The day number of a day of a month, where 1970-01-01 is 0. The day may lie in the neighbouring month.
+#[tactic(auto, unfolding(crate::specs::Calendar::day_number))]
+pub fn day_of(year: i32, month: Month, on: On) -> i64
+    requires year_in { IsRuleYear year }
+    requires day_in { IsTrue (has_day year month on) }
+    ensures value { result ≡ day_number year month on }
+    ensures bound { IsBetween (neg_ℤ (pos 4_371_593)) (pos 2_932_932) result }
+{
+    match on {
+        On::Day(day) => civil_day(year, month, day),
+        On::Last(weekday) => last_up_to(weekday, civil_day(year, month, month_length(year, month))),
+        On::From(weekday, day) => first_from(weekday, counted(year, month, day)),
+        On::UpTo(weekday, day) => last_up_to(weekday, counted(year, month, day)),
+    }
+}
