@@ -1,5 +1,5 @@
 -- Amounts of seconds, as texts write them.
-use Rattle.std.specs.Prelude.{ℕ, ℤ}
+use Rattle.std.specs.Prelude.{ℤ}
 use Rattle.jiff_core.specs.Calendar.{IsWithin}
 
 -- up to 999 hours, 59 minutes and 60.999.. seconds, rounded, with either sign

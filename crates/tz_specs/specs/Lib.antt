@@ -1,0 +1,14 @@
+pub mod Line
+pub mod Field
+pub mod Choice
+pub mod Parts
+pub mod Word
+pub mod Number
+pub mod Amount
+pub mod Day
+pub mod Occurrence
+pub mod State
+pub mod Until
+pub mod Abbreviation
+pub mod Expansion
+pub mod Local

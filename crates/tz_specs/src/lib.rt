@@ -1,0 +1,3 @@
+//! What texts and zones mean. There is no code here: only definitions, in `specs/`, one file a subject,
+//! and laws about them, each the contract of a public function with an empty body.
+#![tactic(auto)]
