@@ -51,12 +51,11 @@ finish_of sets line = by_until line.until
   where
     by_until : Option Until → ℤ
     by_until None = end_of_time
-    by_until (Some until) = until_instant (following_of sets line.rules) line.stdoff until
+    by_until (Some until) = until_instant (following_of sets line.rules) line.stdoff until.year until.moment
 
--- each line begins where the one before it ends
-abbrev pub periods_from : List RuleSet → ℤ → List ZoneLine → List Period
-periods_from sets start [] = []
-periods_from sets start (line ∷ lines) =
+-- a line that begins at an instant
+abbrev pub period_from : List RuleSet → ℤ → ZoneLine → Period
+period_from sets start line =
     record {
       start = start;
       finish = finish_of sets line;
@@ -64,7 +63,12 @@ periods_from sets start (line ∷ lines) =
       following = following_of sets line.rules;
       format = line.format;
     }
-    ∷ periods_from sets (finish_of sets line) lines
+
+-- each line begins where the one before it ends
+abbrev pub periods_from : List RuleSet → ℤ → List ZoneLine → List Period
+periods_from sets start [] = []
+periods_from sets start (line ∷ lines) =
+    period_from sets start line ∷ periods_from sets (finish_of sets line) lines
 
 -- the lines of a zone in time, the first from the beginning of time
 unfoldable pub periods_of : Db → Zone → List Period

@@ -11,4 +11,6 @@ pub mod State
 pub mod Until
 pub mod Abbreviation
 pub mod Expansion
+pub mod Sound
 pub mod Local
+pub mod Record

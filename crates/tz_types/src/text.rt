@@ -1,4 +1,4 @@
-ghost use Rattle.std.specs.Prelude.{◌≡◌, ◌≤◌, ◌↔◌, length, IsTrue, IsOk, IfOk};
+ghost use Rattle.std.specs.Prelude.{◌≡◌, ◌≤◌, ◌↔◌, [], length, IsTrue, IsOk, IfOk};
 ghost use Rattle.std.specs.List.{list_all};
 ghost use Rattle.tz_types.specs.Text.{is_printable, IsText};
 
@@ -81,6 +81,17 @@ impl<const LEAST: usize, const MOST: usize> PrintableText<LEAST, MOST> {
         let mut kept = ArrayVec::new();
         let _ = kept.try_extend_from_slice(self.bytes.as_slice());
         PrintableText { bytes: kept }
+    }
+}
+
+impl<const MOST: usize> PrintableText<0, MOST> {
+    /// The text without bytes.
+    pub fn empty() -> Self
+        ensures { result ≡ [] }
+    {
+        PrintableText {
+            bytes: ArrayVec::new(),
+        }
     }
 }
 

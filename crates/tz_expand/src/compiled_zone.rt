@@ -1,0 +1,13 @@
+ghost use Rattle.std.specs.Prelude.{IsTrue};
+ghost use Rattle.tz_expand.specs.Compiled.{cover_time};
+
+use crate::CompiledLine;
+use tz_types::{Items, Label};
+
+/// A zone ready for questions: its lines, which lead from the beginning of time to its end.
+#[derive(Debug, PartialEq, Drop)]
+pub struct CompiledZone {
+    pub name: Label,
+    pub lines: Items<CompiledLine>,
+    pub ghost covers: { IsTrue (cover_time lines) },
+}
