@@ -28,7 +28,7 @@ pub fn until_instant(set: Option<&RuleSet>, fixed: i64, stdoff: i64, until: &Unt
     requires fixed_in { IsShift fixed }
     requires stdoff_in { IsShift stdoff }
     ensures value { result ≡ until_instant (Fixed fixed false) stdoff until.now.year until.now.moment }
-    ensures bound { IsBetween (neg_ℤ (pos 377_709_408_001)) (pos 253_409_097_601) result }
+    ensures bound { IsBetween (neg_ℤ (pos 377_677_872_001)) (pos 253_377_561_601) result }
 {
     let _ = set;
     nominal(until.year, &until.moment) - shift_of(until.moment.kind, stdoff, fixed)

@@ -10,7 +10,7 @@ use Rattle.tz_types.specs.Limit.{most_lines}
 use Rattle.tz_types.specs.declared.calendar.Month.{Month}
 use Rattle.tz_types.specs.declared.calendar.Month.TheVariants as months
 use Rattle.tz_types.specs.declared.calendar.On.{On}
-use Rattle.tz_types.specs.declared.calendar.On.TheVariants.{Day}
+use Rattle.tz_types.specs.declared.calendar.On.TheVariants.{Day, Last, From, UpTo}
 use Rattle.tz_types.specs.declared.moment.AtKind.{AtKind}
 use Rattle.tz_types.specs.declared.moment.AtKind.TheVariants as kinds
 use Rattle.tz_types.specs.declared.moment.Moment.{Moment}
@@ -25,8 +25,9 @@ use Rattle.tz_types.specs.declared.database.Db.{Db}
 use Rattle.tz_specs.specs.Line.{lines_of, line_length}
 use Rattle.tz_specs.specs.Field.{fields_of, hash, quote}
 use Rattle.tz_specs.specs.Choice.{◌>>=◌, only_if}
-use Rattle.tz_specs.specs.Number.{year_of, number_of}
+use Rattle.tz_specs.specs.Number.{year_of}
 use Rattle.tz_specs.specs.Amount.{amount_of}
+use Rattle.tz_specs.specs.Day.{on_of}
 use Rattle.tz_specs.specs.Until.{Nothing, until_instant}
 use Rattle.tz_specs.specs.Expansion.{first_instant}
 
@@ -98,8 +99,14 @@ month_of field =
     else (if is_word field (codes "Dec") then Some months.December else None)))))))))))
 
 -- a plain day number that the month has in that year
+abbrev pub is_plain_day : On → Bool
+is_plain_day (Day day) = true
+is_plain_day (Last weekday) = false
+is_plain_day (From weekday day) = false
+is_plain_day (UpTo weekday day) = false
+
 abbrev pub until_day_of : ℤ → Month → List ℕ → Option On
-until_day_of year month field = number_of 1 2 field >>= λ day. only_if (has_day year month (Day day)) (Day day)
+until_day_of year month field = on_of field >>= λ on. only_if (is_plain_day on && has_day year month on) on
 
 -- a time of day in universal time, which ends with `u`
 abbrev pub universal_time_of : List ℕ → Option ℤ

@@ -1,6 +1,6 @@
 ghost use Rattle.std.specs.Prelude.{◌≡◌, ℕ, ◌+◌, ◌-◌, ◌<◌, ◌≤◌, pos, neg_ℤ, ◌+ℤ◌, ◌-ℤ◌, IsTrue};
 ghost use Rattle.std.specs.Int.{IsInRange};
-ghost use Rattle.jiff_core.specs.Calendar.{days_from_civil, days_in_month, weekday_number, IsBetween, IsEpochDay};
+ghost use Rattle.jiff_core.specs.Calendar.{days_from_civil, days_in_month, weekday_number, IsBetween};
 ghost use Rattle.tz_types.specs.Year.{IsRuleYear};
 ghost use Rattle.tz_types.specs.Calendar.{month_number, monday_zero, has_day, is_day_up_to, longest_month, counted_day, on_or_after, on_or_before, day_number};
 
@@ -90,7 +90,7 @@ fn civil_day(year: i32, month: Month, day: u8) -> i64
     requires year_in { IsRuleYear year }
     requires day_in { IsInRange 1 (days_in_month year (month_number month)) day }
     ensures value { result ≡ days_from_civil year (month_number month) day }
-    ensures bound { IsEpochDay result }
+    ensures bound { IsBetween (neg_ℤ (pos 4_371_222)) (pos 2_932_531) result }
 {
     let date = Date {
         year: year as i16,
@@ -124,27 +124,47 @@ fn counted(year: i32, month: Month, day: u8) -> i64
     requires year_in { IsRuleYear year }
     requires day_in { IsTrue (is_day_up_to (longest_month month) day) }
     ensures value { result ≡ counted_day year month day }
-    ensures bound { IsBetween (neg_ℤ (pos 4_371_587)) (pos 2_932_926) result }
+    ensures bound { IsBetween (neg_ℤ (pos 4_371_222)) (pos 2_932_561) result }
 {
     civil_day(year, month, 1) + (i64::from(day) - 1)
 }
 
 /// The first such weekday on or after the day.
 fn first_from(weekday: Weekday, day: i64) -> i64
-    requires { IsBetween (neg_ℤ (pos 4_371_587)) (pos 2_932_926) day }
+    requires { IsBetween (neg_ℤ (pos 4_371_222)) (pos 2_932_561) day }
     ensures value { result ≡ on_or_after weekday day }
-    ensures bound { IsBetween (neg_ℤ (pos 4_371_587)) (pos 2_932_932) result }
+    ensures bound { IsBetween (neg_ℤ (pos 4_371_222)) (pos 2_932_567) result }
 {
     day + i64::from((weekday.from_monday() + 7 - weekday_of(day)) % 7)
 }
 
 /// The last such weekday on or before the day.
 fn last_up_to(weekday: Weekday, day: i64) -> i64
-    requires { IsBetween (neg_ℤ (pos 4_371_587)) (pos 2_932_926) day }
+    requires { IsBetween (neg_ℤ (pos 4_371_222)) (pos 2_932_561) day }
     ensures value { result ≡ on_or_before weekday day }
-    ensures bound { IsBetween (neg_ℤ (pos 4_371_593)) (pos 2_932_926) result }
+    ensures bound { IsBetween (neg_ℤ (pos 4_371_228)) (pos 2_932_561) result }
 {
     day - i64::from((weekday_of(day) + 7 - weekday.from_monday()) % 7)
+}
+
+/// Whether the day can be asked for in that year: a plain day number is one that the month then has, and
+/// one after `>=` or `<=` is one that it has in a leap year.
+pub fn has_day(year: i32, month: Month, on: On) -> bool
+    requires { IsRuleYear year }
+    ensures { result ≡ has_day year month on }
+{
+    match on {
+        On::Day(day) => is_up_to(day, month_length(year, month)),
+        On::Last(_) => true,
+        On::From(_, day) => is_up_to(day, month_length(2000, month)),
+        On::UpTo(_, day) => is_up_to(day, month_length(2000, month)),
+    }
+}
+
+fn is_up_to(day: u8, last: u8) -> bool
+    ensures { result ≡ is_day_up_to last day }
+{
+    day >= 1 && day <= last
 }
 
 /// The day number of a day of a month, where 1970-01-01 is 0. The day may lie in the neighbouring month.
@@ -153,7 +173,7 @@ pub fn day_of(year: i32, month: Month, on: On) -> i64
     requires year_in { IsRuleYear year }
     requires day_in { IsTrue (has_day year month on) }
     ensures value { result ≡ day_number year month on }
-    ensures bound { IsBetween (neg_ℤ (pos 4_371_593)) (pos 2_932_932) result }
+    ensures bound { IsBetween (neg_ℤ (pos 4_371_228)) (pos 2_932_567) result }
 {
     match on {
         On::Day(day) => civil_day(year, month, day),

@@ -29,7 +29,7 @@ pub fn nominal(year: i32, moment: &Moment) -> i64
     requires day_in { IsTrue (has_day year moment.now.month moment.now.on) }
     requires at_in { IsTimeOfDay moment.now.at }
     ensures value { result ≡ (pos 86_400 *ℤ day_number year moment.now.month moment.now.on) +ℤ moment.now.at }
-    ensures bound { IsBetween (neg_ℤ (pos 377_709_235_201)) (pos 253_408_924_801) result }
+    ensures bound { IsBetween (neg_ℤ (pos 377_677_699_201)) (pos 253_377_388_801) result }
 {
     86_400 * day_of(year, moment.month, moment.on) + moment.at
 }

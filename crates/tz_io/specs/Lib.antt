@@ -1,0 +1,7 @@
+pub mod Calls
+pub mod Counts
+pub mod Entries
+pub mod Files
+pub mod MemoryFiles
+pub mod MemorySink
+pub mod Sink

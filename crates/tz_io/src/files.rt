@@ -1,0 +1,55 @@
+ghost use Rattle.std.specs.Prelude.{◌≡◌, ◌≤◌, ℕ, List, Option, IfOk, IsErrOf};
+ghost use Rattle.tz_io.specs.declared.files.FileError.TheVariants.{NoMemory};
+ghost use Rattle.tz_io.specs.Counts.{Rose};
+ghost use Rattle.tz_io.specs.Files.{IsFront};
+
+use std::alloc::{AllocError, Global};
+use std::error::Error;
+use std::fmt;
+
+/// Why a file gave no content.
+#[derive(Clone, Copy, Debug, PartialEq, Eq)]
+pub enum FileError {
+    /// Memory ran out.
+    NoMemory,
+    /// There is no file of that name, or it could not be read.
+    Failed,
+}
+
+impl fmt::Display for FileError {
+    fn fmt<W: fmt::Write>(&self, f: &mut fmt::Formatter<W>) -> fmt::Result {
+        f.write_str(match self {
+            FileError::NoMemory => "memory ran out",
+            FileError::Failed => "the file cannot be read",
+        })
+    }
+}
+
+impl Error for FileError {}
+
+impl From<AllocError> for FileError {
+    ghost from_gives = { λ _ error. error ≡ NoMemory };
+
+    fn from(_: AllocError) -> Self {
+        FileError::NoMemory
+    }
+}
+
+/// Files that are read by name.
+pub trait Files {
+    /// The content of each name, where the object tells it. A name is given by its bytes.
+    ghost told: { Self → Option (List ℕ → Option (List ℕ)) };
+
+    /// How often a read of a name has failed. No call makes it smaller.
+    ghost faults: { Self → List ℕ → ℕ };
+
+    /// The first `limit + 1` bytes of the file of that name, or all of it where it is shorter: so
+    /// more than `limit` bytes say that the file is longer than the limit. `FileError::Failed` comes
+    /// only where the count of faults of that name rose; `FileError::NoMemory` may come at any call.
+    /// The files stay as they were, whatever the answer.
+    fn read(&mut self, alloc: Global, name: &str, limit: usize) -> Result<Vec<u8>, FileError>
+        ensures kept { told self.new ≡ told self.old }
+        ensures bytes { IfOk result (λ bytes. IsFront (told self.old) name.now limit bytes.items) }
+        ensures later { (other : List ℕ) → faults self.old other ≤ faults self.new other }
+        ensures failed { IsErrOf result FileError.Failed → Rose (faults self.old name.now) (faults self.new name.now) };
+}

@@ -1,0 +1,110 @@
+ghost use Rattle.std.specs.Prelude.{◌≡◌, ◌+◌, ◌-◌, ◌^◌, ◌≤◌, ◌<◌, ℕ, List, Option, Some, IfOk, IfSome, IsErrOf, min, take, vec_len, length};
+ghost use Rattle.tz_io.specs.Entries.{contents_of, place_in, count_at};
+
+use crate::calls::is_failing;
+use crate::{FileError, Files};
+use std::alloc::{AllocError, Global};
+use tz_types::NoMemory;
+
+/// Files in memory, which tell all that they hold.
+#[derive(Debug, Drop)]
+pub struct MemoryFiles {
+    list: Vec<(String, Vec<u8>)>,
+    failing: Vec<u32>,
+    calls: u64,
+    counts: Vec<u64>,
+    others: u64,
+    ghost one_count_each: { vec_len counts ≡ vec_len list },
+}
+
+impl MemoryFiles {
+    ghost use Rattle.tz_io.specs.MemoryFiles.{files_contents, files_faults, files_calls, files_failing};
+
+    /// Files of these names and contents. Of a name that stands more than once the first entry
+    /// counts. `failing` has the numbers of the reads that fail, counted from 1.
+    pub fn new(
+        alloc: Global,
+        list: Vec<(String, Vec<u8>)>,
+        failing: Vec<u32>,
+    ) -> Result<MemoryFiles, NoMemory>
+        ensures told { IfOk result (λ files. files_contents files ≡ contents_of list.items) }
+        ensures failing { IfOk result (λ files. files_failing files ≡ failing.items) }
+        ensures calls { IfOk result (λ files. files_calls files ≡ 0) }
+        ensures unharmed { IfOk result (λ files. (name : List ℕ) → files_faults files name ≡ 0) }
+    {
+        let mut counts = Vec::new(alloc);
+        counts.resize(list.len(), 0)?;
+        Ok(MemoryFiles {
+            list,
+            failing,
+            calls: 0,
+            counts,
+            others: 0,
+        })
+    }
+}
+
+// Where the first entry of that name stands.
+fn place_of(list: &[(String, Vec<u8>)], name: &str) -> Option<usize>
+    ensures first { result ≡ place_in list.now name.now }
+    ensures within { IfSome result (λ place. place < length list.now) }
+{
+    list.iter().position(|(known, _)| known.as_str() == name)
+}
+
+fn count_fault(counts: &mut [u64], others: &mut u64, place: Option<usize>)
+    requires { IfSome place (λ at. at < length counts.old) }
+    ensures len { length counts.new ≡ length counts.old }
+    ensures counted { count_at counts.new others.new place ≡ min (count_at counts.old others.old place + 1) (2 ^ 64 - 1) }
+    ensures later { (other : Option ℕ) → count_at counts.old others.old other ≤ count_at counts.new others.new other }
+{
+    match place {
+        Some(place) => counts[place] = counts[place].saturating_add(1),
+        None => *others = others.saturating_add(1),
+    }
+}
+
+// The first `limit + 1` bytes, or all of them.
+fn front_of(alloc: Global, content: &[u8], limit: usize) -> Result<Vec<u8>, AllocError>
+    ensures { IfOk result (λ bytes. bytes.items ≡ take (limit + 1) content.now) }
+{
+    content[..content.len().min(limit.saturating_add(1))].to_vec(alloc)
+}
+
+impl Files for MemoryFiles {
+    ghost use Rattle.std.specs.Prelude.{◌⊎◌, IsTrue, IsNone};
+    ghost use Rattle.tz_io.specs.Calls.{next_call};
+    ghost use Rattle.tz_io.specs.Counts.{Rose};
+    ghost use Rattle.tz_io.specs.Files.{IsFront};
+    ghost use Rattle.tz_io.specs.MemoryFiles.{files_contents, files_faults, files_calls, files_failing, fails_next, files_place};
+
+    ghost told = { λ files. Some (files_contents files) };
+
+    ghost faults = { files_faults };
+
+    fn read(&mut self, alloc: Global, name: &str, limit: usize) -> Result<Vec<u8>, FileError>
+        // What the trait promises.
+        ensures kept { Some (files_contents self.new) ≡ Some (files_contents self.old) }
+        ensures bytes { IfOk result (λ bytes. IsFront (Some (files_contents self.old)) name.now limit bytes.items) }
+        ensures later { (other : List ℕ) → files_faults self.old other ≤ files_faults self.new other }
+        ensures failed { IsErrOf result FileError.Failed → Rose (files_faults self.old name.now) (files_faults self.new name.now) }
+
+        // Which reads fail.
+        ensures fails { IsTrue (fails_next self.old) → IsErrOf result FileError.Failed }
+        ensures fails_only { IsErrOf result FileError.Failed → IsTrue (fails_next self.old) ⊎ IsNone (files_place self.old name.now) }
+        ensures calls { files_calls self.new ≡ next_call (files_calls self.old) }
+        ensures failing { files_failing self.new ≡ files_failing self.old }
+    {
+        self.calls = self.calls.saturating_add(1);
+        let place = place_of(&self.list, name);
+        match place {
+            Some(place) if !is_failing(&self.failing, self.calls) => {
+                Ok(front_of(alloc, &self.list[place].1, limit)?)
+            }
+            _ => {
+                count_fault(&mut self.counts, &mut self.others, place);
+                Err(FileError::Failed)
+            }
+        }
+    }
+}

@@ -1,0 +1,103 @@
+ghost use Rattle.std.specs.Prelude.{◌≡◌, ◌≤◌, [], IfOk, vec_len, vec_capacity};
+
+use crate::calls::is_failing;
+use crate::{Failed, Sink};
+use std::alloc::Global;
+use tz_types::NoMemory;
+
+/// A sink in memory, which tells all that it took.
+#[derive(Debug, Drop)]
+pub struct MemorySink {
+    bytes: Vec<u8>,
+    piece: usize,
+    room: usize,
+    failing: Vec<u32>,
+    calls: u64,
+    faults: u64,
+    stalls: u64,
+    ghost within_room: { vec_len bytes ≤ room },
+    ghost room_is_there: { room ≤ vec_capacity bytes },
+}
+
+impl MemorySink {
+    ghost use Rattle.tz_io.specs.MemorySink.{sink_bytes, sink_calls, sink_faults, sink_stalls, sink_limits};
+
+    /// A sink that takes at most `piece` bytes a write and `room` bytes in all, whose memory it
+    /// takes here. A write that finds no room left takes nothing. `failing` has the numbers of the
+    /// writes that fail, counted from 1.
+    pub fn new(
+        alloc: Global,
+        piece: usize,
+        room: usize,
+        failing: Vec<u32>,
+    ) -> Result<MemorySink, NoMemory>
+        ensures empty { IfOk result (λ sink. sink_bytes sink ≡ []) }
+        ensures limits { IfOk result (λ sink. sink_limits sink ≡ (piece, room, failing.items)) }
+        ensures calls { IfOk result (λ sink. sink_calls sink ≡ 0) }
+        ensures faults { IfOk result (λ sink. sink_faults sink ≡ 0) }
+        ensures stalls { IfOk result (λ sink. sink_stalls sink ≡ 0) }
+    {
+        Ok(MemorySink {
+            bytes: Vec::with_capacity(alloc, room)?,
+            piece,
+            room,
+            failing,
+            calls: 0,
+            faults: 0,
+            stalls: 0,
+        })
+    }
+
+    /// All bytes taken so far.
+    pub fn taken(&self) -> &[u8]
+        ensures { result.now ≡ sink_bytes self.now }
+    {
+        &self.bytes
+    }
+}
+
+impl Sink for MemorySink {
+    ghost use Rattle.std.specs.Prelude.{◌≡◌, ◌≤◌, ◌<◌, ◌↔◌, Some, Ok, IfOk, OnErr, IsErr, IsTrue, length};
+    ghost use Rattle.tz_io.specs.Calls.{next_call};
+    ghost use Rattle.tz_io.specs.Counts.{Rose};
+    ghost use Rattle.tz_io.specs.Sink.{Appends, part_taken};
+    ghost use Rattle.tz_io.specs.MemorySink.{sink_bytes, sink_calls, sink_faults, sink_stalls, sink_limits, fails_next, taken_next};
+
+    ghost taken = { λ sink. Some (sink_bytes sink) };
+
+    ghost faults = { sink_faults };
+
+    ghost stalls = { sink_stalls };
+
+    fn write(&mut self, piece: &[u8]) -> Result<usize, Failed>
+        // What the trait promises.
+        ensures within { IfOk result (λ count. count ≤ length piece.now) }
+        ensures taken { Appends (Some (sink_bytes self.old)) (Some (sink_bytes self.new)) (part_taken result piece.now) }
+        ensures failed { OnErr result (Rose (sink_faults self.old) (sink_faults self.new)) }
+        ensures later { sink_faults self.old ≤ sink_faults self.new }
+        ensures stalled { 0 < length piece.now → result ≡ Ok 0 → Rose (sink_stalls self.old) (sink_stalls self.new) }
+        ensures stalls_only { sink_stalls self.old < sink_stalls self.new → (0 < length piece.now) × (result ≡ Ok 0) }
+        ensures stalls_later { sink_stalls self.old ≤ sink_stalls self.new }
+
+        // Which writes fail, and how much the others take.
+        ensures fails { IsErr result ↔ IsTrue (fails_next self.old) }
+        ensures count { IfOk result (λ count. count ≡ taken_next self.old piece.now) }
+        ensures calls { sink_calls self.new ≡ next_call (sink_calls self.old) }
+        ensures limits { sink_limits self.new ≡ sink_limits self.old }
+    {
+        self.calls = self.calls.saturating_add(1);
+        if is_failing(&self.failing, self.calls) {
+            self.faults = self.faults.saturating_add(1);
+            return Err(Failed);
+        }
+        let left = self.room - self.bytes.len();
+        let count = piece.len().min(self.piece).min(left);
+        if count == 0 && !piece.is_empty() {
+            self.stalls = self.stalls.saturating_add(1);
+        }
+        match self.bytes.extend_from_slice(&piece[..count]) {
+            Ok(()) => Ok(count),
+            Err(_) => unreachable!(),
+        }
+    }
+}

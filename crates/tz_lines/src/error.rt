@@ -1,0 +1,41 @@
+ghost use Rattle.std.specs.Prelude.{◌≡◌};
+ghost use Rattle.tz_lines.specs.declared.error.ReadError.TheVariants as errors;
+
+use std::error::Error;
+use std::fmt;
+use tz_types::{Fault, NoMemory};
+
+/// Why a text wasn't read.
+#[derive(Clone, Copy, Debug, PartialEq, Eq, Hash)]
+pub enum ReadError {
+    NoMemory,
+    Fault(Fault),
+}
+
+impl ReadError {
+    /// A text that isn't built yet.
+    pub const UNBUILT: ReadError = ReadError::Fault(Fault { line: 1, cause: 0 });
+}
+
+impl fmt::Display for ReadError {
+    fn fmt<W: fmt::Write>(&self, f: &mut fmt::Formatter<W>) -> fmt::Result {
+        match self {
+            ReadError::NoMemory => f.write_str("memory ran out"),
+            ReadError::Fault(fault) => {
+                let line = fault.line;
+                let cause = fault.cause;
+                write!(f, "line {line}, cause {cause}")
+            }
+        }
+    }
+}
+
+impl Error for ReadError {}
+
+impl From<NoMemory> for ReadError {
+    ghost from_gives = { λ _ e. e ≡ errors.NoMemory };
+
+    fn from(_: NoMemory) -> Self {
+        ReadError::NoMemory
+    }
+}

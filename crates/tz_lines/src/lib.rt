@@ -1,0 +1,15 @@
+//! Texts to databases.
+//!
+//! `read_zones` reads a text whole, or refuses it; `locate` finds a zone by its name. So far a text is built
+//! that has one zone at most, no quotes and no comments, plain formats and no rules; any other is refused
+//! with line 1 and cause 0.
+#![tactic(auto)]
+
+mod cutting;
+mod entry;
+mod error;
+mod locating;
+mod values;
+
+pub use error::ReadError;
+pub use locating::locate;

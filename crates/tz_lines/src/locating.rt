@@ -1,0 +1,34 @@
+ghost use Rattle.std.specs.Prelude.{◌≡◌, option_map, length, position, find, ◌<◌, IfSome};
+ghost use Rattle.tz_types.specs.declared.link.Link.{Link};
+ghost use Rattle.tz_lines.specs.Locate.{is_zone_named, is_link_named, located};
+
+use tz_types::{Db, Link, Zone};
+
+fn zone_place(zones: &[Zone], name: &[u8]) -> Option<usize>
+    ensures place { result ≡ position (is_zone_named name.now) zones.now }
+    ensures there { IfSome result (λ place. place < length zones.now) }
+{
+    zones.iter().position(|zone| zone.name.as_bytes() == name)
+}
+
+fn link_place(links: &[Link], name: &[u8]) -> Option<u32>
+    ensures { result ≡ option_map (λ (link : Link). link.zone) (find (is_link_named name.now) links.now) }
+{
+    for link in links {
+        if link.name.as_bytes() == name {
+            return Some(link.zone);
+        }
+    }
+    None
+}
+
+/// The place, in the list of zones, of the zone of that name, or else of the zone that the link of that name
+/// leads to. None comes exactly where no zone and no link has the name.
+pub fn locate(db: &Db, name: &[u8]) -> Option<u32>
+    ensures { result ≡ located db.now name.now }
+{
+    match zone_place(db.zones.as_slice(), name) {
+        Some(place) => Some(place as u32),
+        None => link_place(db.links.as_slice(), name),
+    }
+}

@@ -1,0 +1,27 @@
+use Rattle.std.proofs.Common.{◌≡◌, ◌∙◌, arith, [], ℕ, None, drop, refl}
+use Rattle.std.proofs.lemmas.List.{take_all}
+use Rattle.tz_specs.specs.Field.{fields_from, Between}
+use Rattle.tz_text.proofs.Steps.{on_err, field_at}
+use Rattle.tz_text.proofs.cut.field_at.Goals as goal
+
+pub returns-in_err-piece-clause-err : goal.returns-in_err-piece-clause-err
+returns-in_err-piece-clause-err c =
+    on_err
+    (fields_from Between [] (drop c.args.index c.args.line.now) ≡ None)
+    _
+    (field_at _ _ c.requires.begins.within c.requires.begins.no_white c.requires.begins.no_hash
+    ∙ c.in_err-piece.ensures.err [])
+
+pub returns-then-ends_field-clause-ok : goal.returns-then-ends_field-clause-ok
+returns-then-ends_field-clause-ok c = record {
+  onwards = c.in_ok-piece.ensures.ok.onwards;
+  within = c.in_ok-piece.ensures.ok.within;
+  room = omega (arith, c.in_ok-piece.ensures.ok.onwards);
+  longer = omega arith;
+  same = take_all _ _ (omega arith);
+  lies = (c.in_ok-piece.ensures.ok.order, omega (arith, c.in_ok-piece.ensures.ok.closed, c.in_ok-piece.ensures.ok.within));
+  goes_on =
+      field_at _ _ c.requires.begins.within c.requires.begins.no_white c.requires.begins.no_hash
+      ∙ c.in_ok-piece.ensures.ok.goes_on []
+      ∙ c.if-ends_field.ensures.ends refl _;
+}

@@ -1,0 +1,7 @@
+pub mod Marks
+pub mod Sizes
+pub mod Places
+pub mod Bounds
+pub mod Kept
+pub mod Piece
+pub mod Spans

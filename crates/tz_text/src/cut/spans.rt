@@ -1,0 +1,48 @@
+//! Where the fields of a line stand.
+ghost use Rattle.std.specs.Prelude.{◌≡◌, ◌<◌, ◌^◌, length};
+
+/// Where the bytes of a field stand: in the line, or in the bytes that were joined.
+#[derive(Clone, Copy)]
+pub(super) enum Span {
+    Line { start: u16, end: u16 },
+    Joined { start: u16, end: u16 },
+}
+
+/// A field, and where the line goes on after it.
+#[derive(Clone, Copy)]
+pub(super) struct Field {
+    pub span: Span,
+    pub after: usize,
+}
+
+/// How many fields a line has, and where the first ten stand.
+#[derive(Clone, Copy)]
+pub(super) struct Spans {
+    pub first: [Span; 10],
+    pub count: usize,
+}
+
+impl Spans {
+    ghost use Rattle.tz_text.specs.Spans.{no_spans, with_span};
+
+    /// No field yet.
+    pub fn new() -> Self
+        ensures { result ≡ no_spans }
+    {
+        Spans {
+            first: [Span::Line { start: 0, end: 0 }; 10],
+            count: 0,
+        }
+    }
+
+    /// Takes the place of one field more.
+    pub fn keep(&mut self, span: Span)
+        requires { self.old.count < 2 ^ 63 }
+        ensures { self.new ≡ with_span self.old span }
+    {
+        if self.count < 10 {
+            self.first[self.count] = span;
+        }
+        self.count += 1;
+    }
+}

@@ -1,0 +1,45 @@
+ghost use Rattle.std.specs.Prelude.{◌≡◌, ◌<◌, ◌≤◌, ◌^◌, length, IfSome, if◌then◌else◌};
+ghost use Rattle.std.specs.List.{list_all};
+ghost use Rattle.tz_types.specs.Year.{IsWrittenYear};
+ghost use Rattle.tz_specs.specs.Number.{is_digit, decimal_value, number_of, year_of};
+
+/// What the digits stand for, where all bytes are digits.
+pub fn value(word: &[u8]) -> Option<u64>
+    requires { length word.now ≤ 12 }
+    ensures value { result ≡ (if list_all is_digit word.now then Some (decimal_value word.now) else None) }
+    ensures bound { IfSome result (λ value. value < 10 ^ length word.now) }
+{
+    let mut value = 0;
+    for byte in word {
+        if !(*byte >= b'0' && *byte <= b'9') {
+            return None;
+        }
+        value = 10 * value + u64::from(*byte - b'0');
+    }
+    Some(value)
+}
+
+/// The number that `least` to `most` digits write.
+#[tactic(auto, unfolding(tz_specs::specs::Number::number_of))]
+pub fn number(word: &[u8], least: usize, most: usize) -> Option<u64>
+    requires { most ≤ 12 }
+    ensures value { result ≡ number_of least most word.now }
+    ensures bound { IfSome result (λ value. value < 10 ^ most) }
+{
+    if word.len() < least || word.len() > most {
+        return None;
+    }
+    value(word)
+}
+
+/// A year: an optional `-` and one to nine digits, and nothing else.
+#[tactic(auto, unfolding(tz_specs::specs::Number::signed_number_of))]
+pub fn year(word: &[u8]) -> Option<i32>
+    ensures value { result ≡ year_of word.now }
+    ensures bound { IfSome result IsWrittenYear }
+{
+    match word {
+        [b'-', digits @ ..] => Some(-(number(digits, 1, 9)? as i32)),
+        _ => Some(number(word, 1, 9)? as i32),
+    }
+}
