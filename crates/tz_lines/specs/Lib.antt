@@ -1,4 +1,6 @@
+pub mod WrittenUntil
 pub mod Written
 pub mod Outcome
+pub mod Begun
 pub mod Refusal
 pub mod Locate

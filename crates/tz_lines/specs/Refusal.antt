@@ -8,7 +8,10 @@ use Rattle.tz_lines.specs.declared.error.ReadError.TheVariants as errors
 abbrev pub unbuilt : Fault
 unbuilt = record { line = 1; cause = 0 }
 
--- Want of memory may come at any time; a fault comes only where there is nothing to read, and is `unbuilt`.
+-- Want of memory may come at any time; a fault is `unbuilt`, and comes only for its reason.
+abbrev pub MeansFault : ReadError → Type 0 → Type 0
+MeansFault errors.NoMemory reason = Unit {0}
+MeansFault (errors.Fault fault) reason = (fault ≡ unbuilt) × reason
+
 abbrev pub Refuses : {A : Type 0} → ReadError → Option A → Type 0
-Refuses errors.NoMemory read = Unit {0}
-Refuses (errors.Fault fault) read = (fault ≡ unbuilt) × (read ≡ None)
+Refuses error read = MeansFault error (read ≡ None)

@@ -9,6 +9,7 @@ mod cutting;
 mod entry;
 mod error;
 mod locating;
+mod reading;
 mod values;
 
 pub use error::ReadError;

@@ -14,12 +14,10 @@ fn zone_place(zones: &[Zone], name: &[u8]) -> Option<usize>
 fn link_place(links: &[Link], name: &[u8]) -> Option<u32>
     ensures { result ≡ option_map (λ (link : Link). link.zone) (find (is_link_named name.now) links.now) }
 {
-    for link in links {
-        if link.name.as_bytes() == name {
-            return Some(link.zone);
-        }
-    }
-    None
+    links
+        .iter()
+        .find(|link| link.name.as_bytes() == name)
+        .map(|link| link.zone)
 }
 
 /// The place, in the list of zones, of the zone of that name, or else of the zone that the link of that name

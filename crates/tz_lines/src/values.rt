@@ -1,11 +1,11 @@
-ghost use Rattle.std.specs.Prelude.{◌≡◌, ◌==◌, ◌||◌, not, IsTrue, IfSome, option_map, is_some};
+ghost use Rattle.std.specs.Prelude.{◌≡◌, ◌==◌, ◌||◌, not, IsTrue, IfSome, option_map, is_some, codes};
 ghost use Rattle.std.specs.List.{list_any};
 ghost use Rattle.tz_types.specs.Year.{IsRuleYear};
 ghost use Rattle.tz_types.specs.Amount.{IsShift, IsTimeOfDay};
 ghost use Rattle.tz_types.specs.Calendar.{has_day};
 ghost use Rattle.tz_types.specs.Format.{is_format, is_plain};
 ghost use Rattle.tz_specs.specs.Field.{hash, quote};
-ghost use Rattle.tz_specs.specs.Record.{is_plain_line, is_text, name_of, whole_amount_of, stdoff_of, no_rules_of, format_of, until_year_of, month_of, is_plain_day, until_day_of, universal_time_of};
+ghost use Rattle.tz_specs.specs.Record.{is_plain_line, is_text, is_word, name_of, whole_amount_of, stdoff_of, no_rules_of, format_of, until_year_of, month_of, is_plain_day, until_day_of, universal_time_of};
 
 use tz_text::{Amount, amount, on, year};
 use tz_types::{Abbrev, Format, Label, Month, On, has_day};
@@ -61,11 +61,26 @@ pub fn standard_offset(field: &[u8]) -> Option<i64>
     }
 }
 
-/// Whether the field is the `-` that stands for no rules.
-pub fn is_no_rules(field: &[u8]) -> bool
-    ensures { result ≡ is_some (no_rules_of field.now) }
+/// The `-` that stands for no rules.
+pub fn no_rules(field: &[u8]) -> Option<()>
+    ensures { is_some result ≡ is_some (no_rules_of field.now) }
 {
-    field == b"-".as_slice()
+    if field == b"-".as_slice() {
+        Some(())
+    } else {
+        None
+    }
+}
+
+/// The word that begins a zone.
+pub fn zone_word(field: &[u8]) -> Option<()>
+    ensures { is_some result ≡ is_word field.now (codes "Zone") }
+{
+    if field == b"Zone".as_slice() {
+        Some(())
+    } else {
+        None
+    }
 }
 
 /// A format that stands for itself: 1 to 24 visible bytes, none of them `%` or `/`.
@@ -74,16 +89,16 @@ pub fn plain_format(field: &[u8]) -> Option<Format>
     ensures form { IfSome result (λ format. IsTrue (is_format format)) }
     ensures text { IfSome result (λ format. IsTrue (is_text format)) }
 {
-    if field.is_empty() || field.len() > 24 || has_mark(field) {
+    if field.is_empty() || field.len() > 24 || !is_without_marks(field) {
         return None;
     }
     Some(Format::Text(Abbrev::new(field).ok()?))
 }
 
-fn has_mark(field: &[u8]) -> bool
-    ensures { result ≡ not (is_plain field.now) }
+fn is_without_marks(field: &[u8]) -> bool
+    ensures { result ≡ is_plain field.now }
 {
-    !field.iter().all(|byte| !(*byte == b'%' || *byte == b'/'))
+    field.iter().all(|byte| !(*byte == b'%' || *byte == b'/'))
 }
 
 /// The year of an UNTIL, from -9998 to 9998.
