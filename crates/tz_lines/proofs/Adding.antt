@@ -1,5 +1,5 @@
 -- How entries add to the zone that was begun.
-use Rattle.std.proofs.Common.{◌≡◌, ℕ, ◌+◌, Bool, List, [], ◌∷◌, ◌++◌, Option, Some, None, is_some, option_map, map, refl, sym, ap, ◌∙◌}
+use Rattle.std.proofs.Common.{◌≡◌, ℕ, ◌+◌, Bool, Result, Ok, Err, IfErr, List, [], ◌∷◌, ◌++◌, Option, Some, None, is_some, option_map, map, refl, sym, ap, ◌∙◌}
 use Rattle.tz_types.specs.declared.zone.Zone.{Zone}
 use Rattle.tz_types.specs.declared.zone_line.ZoneLine.{ZoneLine}
 use Rattle.tz_specs.specs.Record.{WrittenZone, WrittenLine, Record, written_line, written_zone, wants_more}
@@ -37,13 +37,13 @@ adds_line old zone new line entry was is name same =
 
 -- a line that isn't built refuses the text, whatever follows
 pub refused : (error : ReadError) (zone : Option Zone) (number : ℕ) (line : List ℕ) (continues : Bool) → continues ≡ wants_line (written_begun zone) → Refuses error (reading_of continues number line) → (lines : List (List ℕ)) → Refuses error (outcome (written_begun zone) number (line ∷ lines))
-refused errors.NoMemory zone number line continues is h lines = tt
+refused errors.NoMemory begun number line continues is h lines = tt
 refused (errors.Fault fault) zone number line continues is h lines =
     (h.0, outcome-refused (written_begun zone) number line lines (rw is at h.1))
 
 -- and so does an entry with which nothing is built
 pub exceeded : (error : ReadError) (zone : Option Zone) (number : ℕ) (line : List ℕ) (continues : Bool) (entry : Record) → continues ≡ wants_line (written_begun zone) → reading_of continues number line ≡ Some (Some entry) → MeansFault error (Exceeds zone entry) → (lines : List (List ℕ)) → Refuses error (outcome (written_begun zone) number (line ∷ lines))
-exceeded errors.NoMemory zone number line continues entry is read h lines = tt
+exceeded errors.NoMemory begun number line continues entry is read h lines = tt
 exceeded (errors.Fault fault) zone number line continues entry is read h lines =
     (h.0, outcome-excess (written_begun zone) number line lines entry (rw is at read) h.1)
 
@@ -53,3 +53,7 @@ blank zone number line continues is read lines = outcome-blank (written_begun zo
 pub added : (old new : Option Zone) (number : ℕ) (line : List ℕ) (continues : Bool) (entry : Record) → continues ≡ wants_line (written_begun old) → reading_of continues number line ≡ Some (Some entry) → Adds old new entry → (lines : List (List ℕ)) → outcome (written_begun old) number (line ∷ lines) ≡ outcome (written_begun new) (number + 1) lines
 added old new number line continues entry is read adds lines =
     outcome-entry (written_begun old) (written_begun new) number line lines entry (rw is at read) adds.wants adds.same
+
+pub if_err_weaker : {X Y : Type 0} (r : Result X Y) {P Q : Y → Type 0} → ((y : Y) → P y → Q y) → IfErr r P → IfErr r Q
+if_err_weaker (Ok x) f h = h
+if_err_weaker (Err y) f h = f y h

@@ -43,3 +43,21 @@ is_newline byte h = grind (arith, nat_tests)
 -- nothing is left after the last line
 pub none_left : (text : List ℕ) → drop (length text) text ≡ []
 none_left text = drop_all (length text) text (omega arith)
+
+-- a text with a byte has a line
+pub lines_some : (text : List ℕ) → 0 < length text → 0 < length (lines_of text)
+unfolding lines_of
+lines_some [] some = absurd (omega arith)
+lines_some (byte ∷ text) some =
+    ⊎_elim (λ (e : eqb byte 10 ≡ true). rw e (omega arith)) (λ (e : eqb byte 10 ≡ false). rw e (on_first byte (lines_of text))) (cases_Bool (eqb byte 10))
+  where
+    on_first : (byte : ℕ) (lines : List (List ℕ)) → 0 < length (onto_first byte lines)
+    on_first byte [] = omega arith
+    on_first byte (line ∷ lines) = omega arith
+
+pub nothing_left : (text : List ℕ) → true ≡ eqb (length text) 0 → text ≡ []
+nothing_left [] h = refl
+nothing_left (byte ∷ text) h = absurd (omega (arith, some_left (suc (length text)) h))
+  where
+    some_left : (n : ℕ) → true ≡ eqb n 0 → n ≡ 0
+    some_left n h = grind (arith, nat_tests)

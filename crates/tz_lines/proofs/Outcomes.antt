@@ -110,3 +110,8 @@ last_wants-push (first ∷ next ∷ lines) line = last_wants-push (next ∷ line
 pub map-push : {A B : Type 0} (f : A → B) (xs : List A) (x : A) → map f (xs ++ x ∷ []) ≡ map f xs ++ f x ∷ []
 map-push f [] x = refl
 map-push f (y ∷ xs) x = ap (λ rest. f y ∷ rest) (map-push f xs x)
+
+-- no line is left
+pub outcome-end : (begun : Option WrittenZone) (number : ℕ) → outcome begun number [] ≡ built_after begun []
+unfolding outcome records_from
+outcome-end begun number = refl

@@ -5,6 +5,7 @@
 //! with line 1 and cause 0.
 #![tactic(auto)]
 
+mod building;
 mod cutting;
 mod entry;
 mod error;

@@ -136,7 +136,7 @@ fn take_line(
 }
 
 /// Reads all lines of a text of at most 100,000 lines.
-fn take_lines(alloc: Global, text: &[u8]) -> Result<Option<Zone>, ReadError>
+pub fn take_lines(alloc: Global, text: &[u8]) -> Result<Option<Zone>, ReadError>
     requires { length text.now ≤ 4_194_304 }
     ensures ok { IfOk result (λ zone. (length (lines_of text.now) ≤ 100_000) × (outcome None 1 (lines_of text.now) ≡ built_after (written_begun zone) [])) }
     ensures plain { IfOk result IsPlainBegun }

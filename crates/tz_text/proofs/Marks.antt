@@ -1,12 +1,11 @@
 -- Parts, and the first place of a mark.
-use Rattle.std.proofs.Common.{◌≡◌, ℕ, suc, ◌+◌, ◌<◌, ◌≤◌, ◌==◌, ◌&&◌, Bool, true, false, if◌then◌else◌, List, [], ◌∷◌, length, get_or, Option, Some, None, nat_lt, refl, ap, ◌∙◌, sym, arith, not, IsTrue}
-use Rattle.std.specs.List.{position, position_or_len, slice_split, before_first, after_first, All, list_all, join_with_byte, count_by}
+use Rattle.std.proofs.Common.{◌≡◌, ℕ, ◌<◌, ◌≤◌, ◌==◌, true, false, if◌then◌else◌, List, [], ◌∷◌, length, Some, nat_lt, refl, ap, ◌∙◌, sym, arith}
+use Rattle.std.specs.List.{position, position_or_len, slice_split, before_first, after_first, list_all, join_with_byte}
 use mathlib.Core.Logic.{⊎_elim}
-use Rattle.std.proofs.lemmas.Bool.{cases_Bool, cases_lt, lt-ltb, ltb_from_iff}
+use Rattle.std.proofs.lemmas.Bool.{cases_lt, lt-ltb}
 use Rattle.std.proofs.lemmas.List.Elements.{All-from_get_or}
 use Rattle.std.proofs.lemmas.List.Sums.{fails_before_first}
 use Rattle.std.proofs.lemmas.List.Splits.{slice_split_none, slice_split_first, join_with_byte-slice_split, length-slice_split}
-use Rattle.std.proofs.lemmas.Grind.{common_steps}
 use Rattle.tz_specs.specs.Number.{is_digit}
 use Rattle.tz_specs.specs.Parts.{parts_at, onto_part}
 use Rattle.tz_text.specs.Marks.{parts_round}

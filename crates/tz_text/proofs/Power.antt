@@ -1,5 +1,5 @@
 -- Values of digits, and powers of ten.
-use Rattle.std.proofs.Common.{ℕ, ◌+◌, ◌*◌, ◌<◌, ◌≤◌, ◌^◌, Option, Some, None, IfSome, lit<, arith}
+use Rattle.std.proofs.Common.{ℕ, ◌+◌, ◌<◌, ◌≤◌, ◌^◌, Option, Some, None, IfSome, lit<, arith}
 use Rattle.std.proofs.Math.Nat.{pow-le-pow_right}
 
 -- after fewer than twelve digits there is room for one more

@@ -1,5 +1,5 @@
 -- An amount's size by its first part and what follows.
-use Rattle.std.proofs.Common.{◌≡◌, ℕ, ◌+◌, ◌*◌, ◌<◌, Bool, true, false, ◌&&◌, nat_le, List, [], ◌∷◌, length, Option, Some, None, option_map, refl, ap, ◌∙◌, sym, arith}
+use Rattle.std.proofs.Common.{◌≡◌, ℕ, ◌+◌, ◌*◌, ◌<◌, Bool, true, false, List, [], ◌∷◌, length, Option, Some, None, option_map, refl, ap, arith}
 use Rattle.std.specs.List.{list_all}
 use mathlib.Core.Logic.{⊎_elim}
 use Rattle.std.proofs.lemmas.Bool.{cases_Bool}
@@ -7,7 +7,7 @@ use Rattle.tz_specs.specs.Choice.{◌>>=◌, only_if}
 use Rattle.tz_specs.specs.Parts.{parts_at}
 use Rattle.tz_specs.specs.Number.{is_digit, number_of, are_digits}
 use Rattle.tz_specs.specs.Amount.{Length, rounded, clock_of, size_of, part_up_to, seconds_of}
-use Rattle.tz_text.specs.Sizes.{added, seconds_of_hours, seconds_of_minutes, rounded_seconds_of, last_seconds_of, after_hours_of, clock_seconds_of}
+use Rattle.tz_text.specs.Sizes.{added, seconds_of_hours, seconds_of_minutes, rounded_seconds_of, last_seconds_of, clock_seconds_of}
 use Rattle.tz_text.proofs.Marks.{one_part, digits_unmarked, parts_are}
 
 -- an even number more changes no rounding

@@ -1,9 +1,9 @@
 -- What the places of fields stand for.
-use Rattle.std.proofs.Common.{◌≡◌, ℕ, ◌+◌, ◌-◌, ◌<◌, ◌≤◌, List, [], ◌∷◌, ◌++◌, length, take, drop, get_or, set, map, suc, zero, Option, Some, None, arith, sym, ◌∙◌, ap, refl, append_assoc, min, ⊎_elim, replicate}
+use Rattle.std.proofs.Common.{◌≡◌, ℕ, ◌+◌, ◌-◌, ◌<◌, ◌≤◌, List, [], ◌∷◌, ◌++◌, length, take, drop, get_or, set, map, suc, zero, Option, Some, None, arith, sym, ◌∙◌, ap, refl, append_assoc, ⊎_elim}
 use Rattle.std.specs.Option.{option_map}
 use Rattle.std.specs.List.{All, slice_range}
 use Rattle.std.proofs.lemmas.Bool.{cases_lt}
-use Rattle.std.proofs.lemmas.List.{take_all, take_at, take_more_set, set_past, map-set, length-take, length-map, append-nil, take_rest, take-take, drop-take, get_or-take, length_push}
+use Rattle.std.proofs.lemmas.List.{take_all, take_at, take_more_set, set_past, map-set, length-take, length-map, append-nil, take-take, drop-take, length_push}
 use Rattle.std.proofs.lemmas.List.Elements.{All-set}
 use Rattle.tz_specs.specs.Field.{fields_from, fields_of, Between}
 use Rattle.tz_text.specs.Kept.{Kept, kept_of, with_later, with_field, most_kept}
@@ -120,7 +120,7 @@ kept_same line earlier joined spans same lie =
 -- one field more
 pub one_more :
     (line earlier joined : List ℕ) (spans : Spans) (index : ℕ) (field : Field) → length spans.first ≡ 10
-    → All (LiesIn line earlier) spans.first → IsField line earlier joined index field
+    → All (LiesIn line earlier) spans.first → IsField line earlier joined (index + 1) (fields_from Between [] (drop index line)) field
     → option_map (with_later (kept_in line earlier spans)) (fields_from Between [] (drop index line))
     ≡ option_map
     (with_later (kept_in line joined (with_span spans field.span)))
@@ -139,7 +139,7 @@ one_more line earlier joined spans index field ten lie is =
 
 pub all_lie :
     (line earlier joined : List ℕ) (spans : Spans) (index : ℕ) (field : Field) → All (LiesIn line earlier) spans.first
-    → IsField line earlier joined index field → All (LiesIn line joined) (with_span spans field.span).first
+    → IsField line earlier joined (index + 1) (fields_from Between [] (drop index line)) field → All (LiesIn line joined) (with_span spans field.span).first
 all_lie line earlier joined spans index field lie is =
     All-set
     (LiesIn line joined)

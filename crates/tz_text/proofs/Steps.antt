@@ -1,65 +1,16 @@
--- How the reading of a line goes on by one byte.
-use Rattle.std.proofs.Common.{◌≡◌, ℕ, ◌+◌, ◌-◌, ◌<◌, ◌≤◌, Bool, true, false, ◌==◌, List, [], ◌∷◌, ◌++◌, length, take, drop, get_or, Option, Some, None, arith, sym, ◌∙◌, ap, refl, ◌≢◌, ne_eqb, eq-eqb, append_assoc, length-drop}
+-- How the reading of a line goes on from a place of it.
+use Rattle.std.proofs.Common.{◌≡◌, ℕ, ◌+◌, ◌-◌, ◌<◌, ◌≤◌, true, false, List, [], ◌∷◌, ◌++◌, length, drop, get_or, Some, None, arith, refl, ◌≢◌, ne_eqb, eq-eqb, append_assoc, length-drop}
 use Rattle.std.specs.Option.{option_map}
 use Rattle.std.specs.Prelude.{Result, Ok, Err, OnErr}
 use Rattle.std.specs.List.{slice_range}
 use Rattle.std.proofs.lemmas.List.{drop_more, take_more, drop_all, get_or-drop, append-nil, take_rest}
 use Rattle.tz_specs.specs.Field.{is_white, hash, quote, Between, Inside, Quoted, fields_from}
+use Rattle.tz_specs.proofs.Heads.{white_head, plain_head, quoted_head, closing_head, opening_head, field_head, ending_white, ending_hash, ending_nil}
 
 -- what holds at all holds of an error
 pub on_err : {T E : Type 0} (P : Type 0) (r : Result T E) → P → OnErr r P
 on_err P (Ok x) p = tt
 on_err P (Err e) p = p
-
-pub white_head : (byte : ℕ) (field rest : List ℕ) → is_white byte ≡ true → fields_from Between field (byte ∷ rest) ≡ fields_from Between [] rest
-unfolding fields_from
-white_head byte field rest w = rw w
-
-pub plain_head :
-    (byte : ℕ) (field rest : List ℕ) → is_white byte ≡ false → (byte == hash) ≡ false → (byte == quote) ≡ false
-    → fields_from Inside field (byte ∷ rest) ≡ fields_from Inside (field ++ byte ∷ []) rest
-unfolding fields_from
-plain_head byte field rest w h q = rw (w, h, q)
-
-pub quoted_head :
-    (byte : ℕ) (field rest : List ℕ) → (byte == quote) ≡ false
-    → fields_from Quoted field (byte ∷ rest) ≡ fields_from Quoted (field ++ byte ∷ []) rest
-unfolding fields_from
-quoted_head byte field rest q = rw q
-
-pub closing_head :
-    (byte : ℕ) (field rest : List ℕ) → (byte == quote) ≡ true
-    → fields_from Quoted field (byte ∷ rest) ≡ fields_from Inside field rest
-unfolding fields_from
-closing_head byte field rest q = rw q
-
-pub opening_head :
-    (byte : ℕ) (field rest : List ℕ) → is_white byte ≡ false → (byte == hash) ≡ false → (byte == quote) ≡ true
-    → fields_from Inside field (byte ∷ rest) ≡ fields_from Quoted field rest
-unfolding fields_from
-opening_head byte field rest w h q = rw (w, h, q)
-
-pub field_head :
-    (byte : ℕ) (field rest : List ℕ) → is_white byte ≡ false → (byte == hash) ≡ false
-    → fields_from Between field (byte ∷ rest) ≡ fields_from Inside [] (byte ∷ rest)
-unfolding fields_from
-field_head byte field rest w h = rw (w, h)
-
-pub ending_white :
-    (byte : ℕ) (field rest : List ℕ) → is_white byte ≡ true
-    → fields_from Inside field (byte ∷ rest) ≡ option_map (λ fields. field ∷ fields) (fields_from Between [] (byte ∷ rest))
-unfolding fields_from
-ending_white byte field rest w = rw w
-
-pub ending_hash :
-    (byte : ℕ) (field rest : List ℕ) → is_white byte ≡ false → (byte == hash) ≡ true
-    → fields_from Inside field (byte ∷ rest) ≡ option_map (λ fields. field ∷ fields) (fields_from Between [] (byte ∷ rest))
-unfolding fields_from
-ending_hash byte field rest w h = rw (w, h)
-
-pub ending_nil : (field : List ℕ) → fields_from Inside field [] ≡ option_map (λ fields. field ∷ fields) (fields_from Between [] [])
-unfolding fields_from
-ending_nil field = λ i. Some (field ∷ [])
 
 pub range_more :
     (line : List ℕ) (from to : ℕ) → from ≤ to → to < length line
@@ -73,7 +24,7 @@ range_more line from to order within =
 pub range_none : (line : List ℕ) (from : ℕ) → slice_range line from from ≡ []
 range_none line from = let none : from - from ≡ 0 = omega arith in rw none
 
--- the same at a place of the line
+-- a step of the reading at a place of the line
 pub white_at :
     (line : List ℕ) (index : ℕ) → index < length line → is_white (get_or line index 0) ≡ true
     → fields_from Between [] (drop index line) ≡ fields_from Between [] (drop (index + 1) line)

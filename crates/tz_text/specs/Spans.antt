@@ -1,6 +1,6 @@
 -- The places of a line's fields.
-use Rattle.std.specs.Prelude.{◌≡◌, ℕ, ◌+◌, ◌<◌, ◌≤◌, List, [], ◌∷◌, length, map, take, drop, replicate, slice_set}
-use Rattle.std.specs.List.{All, slice_range}
+use Rattle.std.specs.Prelude.{◌≡◌, ℕ, ◌+◌, ◌≤◌, List, [], ◌∷◌, Option, length, map, take, drop, replicate, slice_set}
+use Rattle.std.specs.List.{slice_range}
 use Rattle.std.specs.Option.{option_map}
 use Rattle.tz_specs.specs.Field.{fields_from, Between}
 use Rattle.tz_text.specs.Kept.{Kept}
@@ -32,14 +32,14 @@ abbrev pub kept_in : List ℕ → List ℕ → Spans → Kept
 kept_in line joined spans =
     record { first = take spans.count (map (bytes_of line joined) spans.first); count = spans.count }
 
--- the field of the line that begins at `index`
-pub record IsField (line earlier joined : List ℕ) (index : ℕ) (field : Field) : Type 0 where
-  pub onwards : index < field.after
+-- the field with which this reading of the line goes on; it ends at `from` or later
+pub record IsField (line earlier joined : List ℕ) (from : ℕ) (reading : Option (List (List ℕ))) (field : Field) : Type 0 where
+  pub onwards : from ≤ field.after
   pub within : field.after ≤ length line
   pub room : length joined ≤ field.after
   pub longer : length earlier ≤ length joined
   pub same : take (length earlier) joined ≡ earlier
   pub lies : LiesIn line joined field.span
   pub goes_on :
-      fields_from Between [] (drop index line)
+      reading
       ≡ option_map (λ fields. bytes_of line joined field.span ∷ fields) (fields_from Between [] (drop field.after line))

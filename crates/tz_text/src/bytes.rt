@@ -15,16 +15,16 @@ pub fn lower_case(byte: u8) -> u8
     }
 }
 
-/// The place of the first such byte, which parts the word.
+/// The place of the first such byte. The parts of the word lie on both sides of it.
 pub fn place(word: &[u8], mark: u8) -> Option<usize>
     ensures parts { parts_at mark word.now ≡ parts_round result mark word.now }
     ensures bound { IfSome result (λ at. at < length word.now) }
 {
-    first(word, mark)
+    first_place(word, mark)
 }
 
 /// The place of the first such byte.
-fn first(word: &[u8], mark: u8) -> Option<usize>
+fn first_place(word: &[u8], mark: u8) -> Option<usize>
     ensures value { result ≡ position (λ byte. byte == mark) word.now }
     ensures bound { IfSome result (λ at. at < length word.now) }
 {

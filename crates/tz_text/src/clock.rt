@@ -8,8 +8,9 @@ ghost use Rattle.tz_text.specs.Sizes.{seconds_of_hours, seconds_of_minutes, roun
 
 use crate::Amount;
 use crate::bytes::{is_one_of, lower_case, place};
-use crate::digits::{number, value};
+use crate::digits::{decimal, number};
 
+/// The power of ten with so many zeros.
 fn power_of_ten(digits: usize) -> u64
     requires { digits ≤ 12 }
     ensures { result ≡ 10 ^ digits }
@@ -40,7 +41,7 @@ fn with_fraction(whole: u64, fraction: &[u8]) -> Option<u64>
     if fraction.is_empty() || fraction.len() > 12 {
         return None;
     }
-    let twice = 2 * value(fraction)?;
+    let twice = 2 * decimal(fraction)?;
     let unit = power_of_ten(fraction.len());
     if twice < unit {
         Some(whole)

@@ -2,8 +2,8 @@
 //!
 //! A field is a part of the line wherever its bytes stand there in one piece. Only a field that joins pieces,
 //! as `a"b c"d`, is copied, into room that the caller gives and that serves for each line anew.
-ghost use Rattle.std.specs.Prelude.{◌≡◌, ℕ, ◌+◌, ◌<◌, ◌≤◌, [], Some, None, ◌++◌, length, drop, IfOk, OnErr, slice_index_or};
-ghost use Rattle.tz_specs.specs.Field.{fields_from, fields_of, Between};
+ghost use Rattle.std.specs.Prelude.{◌≡◌, ℕ, ◌+◌, ◌<◌, ◌≤◌, [], Some, None, ◌++◌, length, drop, IfOk, OnErr, slice_index_or, slice_range};
+ghost use Rattle.tz_specs.specs.Field.{fields_from, fields_of, Between, Inside};
 ghost use Rattle.tz_text.specs.Piece.{BeginsPiece};
 ghost use Rattle.tz_text.specs.Spans.{IsField, LiesIn, kept_in};
 ghost use Rattle.tz_text.specs.Kept.{kept_of, most_kept};
@@ -14,7 +14,7 @@ mod scan;
 mod spans;
 
 use arrayvec::ArrayVec;
-use scan::{ends_field, piece_at, skip_white};
+use scan::{Piece, ends_field, piece_at, skip_white};
 use spans::{Field, Span, Spans};
 use std::error::Error;
 use std::fmt;
@@ -84,6 +84,10 @@ impl<'a> Fields<'a> {
         requires { length line.now ≤ 2048 }
         ensures ok { IfOk result (λ fields. option_map kept_of (fields_of line.now) ≡ Some fields) }
         ensures err { OnErr result (fields_of line.now ≡ None) }
+
+        // Up to ten fields are all there.
+        ensures whole { IfOk result (λ fields. fields.count ≤ most_kept → fields_of line.now ≡ Some fields.first) }
+        ensures counted { IfOk result (λ fields. fields.count ≤ most_kept → length fields.first ≡ fields.count) }
     {
         let spans = spans_of(line, joined)?;
         Ok(Fields {
@@ -101,7 +105,7 @@ impl<'a> Fields<'a> {
     }
 
     /// The bytes of the field `index`, counted from 0.
-    pub fn get(&self, index: usize) -> &[u8]
+    pub fn get(&self, index: usize) -> &'a [u8]
         requires kept { index < most_kept }
         requires there { index < self.now.count }
         ensures { result.now ≡ slice_index_or self.now.first index [] }
@@ -136,7 +140,7 @@ fn field_at(line: &[u8], index: usize, joined: &mut Joined) -> Result<Field, Ope
     requires short { length line.now ≤ 2048 }
     requires begins { BeginsPiece line.now index }
     requires room { length joined.old.bytes.items ≤ index }
-    ensures ok { IfOk result (λ field. IsField line.now joined.old.bytes.items joined.new.bytes.items index field) }
+    ensures ok { IfOk result (IsField line.now joined.old.bytes.items joined.new.bytes.items (index + 1) (fields_from Between [] (drop index line.now))) }
     ensures err { OnErr result (fields_from Between [] (drop index line.now) ≡ None) }
 {
     let piece = piece_at(line, index)?;
@@ -149,19 +153,20 @@ fn field_at(line: &[u8], index: usize, joined: &mut Joined) -> Result<Field, Ope
             after: piece.after,
         });
     }
-    join(line, index, joined)
+    join(line, piece, joined)
 }
 
-/// The field that begins at `index`, with its pieces joined behind what `joined` has.
-fn join(line: &[u8], index: usize, joined: &mut Joined) -> Result<Field, OpenQuote>
+/// The field that begins with the piece `first`, its pieces joined behind what `joined` has.
+fn join(line: &[u8], first: Piece, joined: &mut Joined) -> Result<Field, OpenQuote>
     requires short { length line.now ≤ 2048 }
-    requires begins { BeginsPiece line.now index }
-    requires room { length joined.old.bytes.items ≤ index }
-    ensures ok { IfOk result (λ field. IsField line.now joined.old.bytes.items joined.new.bytes.items index field) }
-    ensures err { OnErr result (fields_from Between [] (drop index line.now) ≡ None) }
+    requires order { first.start ≤ first.end }
+    requires closed { first.end ≤ first.after }
+    requires within { first.after ≤ length line.now }
+    requires room { length joined.old.bytes.items ≤ first.start }
+    ensures ok { IfOk result (IsField line.now joined.old.bytes.items joined.new.bytes.items first.after (fields_from Inside (slice_range line.now first.start first.end) (drop first.after line.now))) }
+    ensures err { OnErr result (fields_from Inside (slice_range line.now first.start first.end) (drop first.after line.now) ≡ None) }
 {
     let start = joined.bytes.len();
-    let first = piece_at(line, index)?;
     joined.append(&line[first.start..first.end]);
     let mut after = first.after;
     while !ends_field(line, after) {
@@ -176,4 +181,76 @@ fn join(line: &[u8], index: usize, joined: &mut Joined) -> Result<Field, OpenQuo
         },
         after,
     })
+}
+
+#[cfg(test)]
+mod tests {
+    use super::*;
+    use std::process::Abort;
+    use std::test::Fail;
+
+    fn gives(rt: &impl Abort, joined: &mut Joined, line: &str, wanted: &[&str]) {
+        assert!(rt; line.len() <= 2048);
+        match Fields::cut(line.as_bytes(), joined) {
+            Ok(fields) => {
+                assert_eq!(rt; fields.count(), wanted.len(), "{line:?}");
+                for (index, field) in wanted.iter().enumerate() {
+                    if index < 10 && index < fields.count() {
+                        assert_eq!(rt; fields.get(index), field.as_bytes(), "{line:?}");
+                    }
+                }
+            }
+            Err(OpenQuote) => assert!(rt; false, "{line:?}"),
+        }
+    }
+
+    fn is_open(rt: &impl Abort, joined: &mut Joined, line: &str) {
+        assert!(rt; line.len() <= 2048);
+        assert!(rt; Fields::cut(line.as_bytes(), joined).is_err(), "{line:?}");
+    }
+
+    #[test]
+    fn cuts_lines(rt: HostRuntime) {
+        let joined = &mut Joined::new();
+        let rule = [
+            "Rule", "US", "1967", "2006", "-", "Oct", "lastSun", "2:00", "0", "S",
+        ];
+        gives(
+            &rt,
+            joined,
+            "Rule US 1967 2006 - Oct lastSun 2:00 0 S",
+            &rule,
+        );
+        gives(
+            &rt,
+            joined,
+            "Zone \"A#B\" 0 - X # \"",
+            &["Zone", "A#B", "0", "-", "X"],
+        );
+        gives(&rt, joined, "", &[]);
+        gives(&rt, joined, " \t ", &[]);
+        gives(&rt, joined, "# a comment", &[]);
+        gives(&rt, joined, "\"\"", &[""]);
+        gives(&rt, joined, "a#b", &["a"]);
+        gives(&rt, joined, "a\"b c\"d", &["ab cd"]);
+        gives(&rt, joined, "\"a\"\"b\" c\"\" x", &["ab", "c", "x"]);
+        gives(&rt, joined, "a\tb\rc\x0bd\x0ce", &["a", "b", "c", "d", "e"]);
+        let eleven = ["1", "2", "3", "4", "5", "6", "7", "8", "9", "10", "11"];
+        gives(&rt, joined, "1 2 3 4 5 6 7 8 9 10 11", &eleven);
+    }
+
+    #[test]
+    fn tells_of_an_open_quote(rt: HostRuntime) -> Result<(), Fail> {
+        let told = format!(in rt.alloc(); "{OpenQuote}")?;
+        assert_eq!(rt; told.as_str(), "a quoted piece of the line isn't closed");
+        Ok(())
+    }
+
+    #[test]
+    fn refuses_open_quotes(rt: HostRuntime) {
+        let joined = &mut Joined::new();
+        is_open(&rt, joined, "Zone \"A 0 - X");
+        is_open(&rt, joined, "a\"");
+        is_open(&rt, joined, "a\"b\"\"");
+    }
 }

@@ -4,7 +4,7 @@ ghost use Rattle.tz_types.specs.Year.{IsWrittenYear};
 ghost use Rattle.tz_specs.specs.Number.{is_digit, decimal_value, number_of, year_of};
 
 /// What the digits stand for, where all bytes are digits.
-pub fn value(word: &[u8]) -> Option<u64>
+pub fn decimal(word: &[u8]) -> Option<u64>
     requires { length word.now ≤ 12 }
     ensures value { result ≡ (if list_all is_digit word.now then Some (decimal_value word.now) else None) }
     ensures bound { IfSome result (λ value. value < 10 ^ length word.now) }
@@ -29,7 +29,7 @@ pub fn number(word: &[u8], least: usize, most: usize) -> Option<u64>
     if word.len() < least || word.len() > most {
         return None;
     }
-    value(word)
+    decimal(word)
 }
 
 /// A year: an optional `-` and one to nine digits, and nothing else.

@@ -20,3 +20,6 @@ pub use digits::year;
 pub use duration::Amount;
 pub use output::put_number;
 pub use table::named;
+
+#[cfg(test)]
+mod tests;

@@ -1,4 +1,4 @@
-use Rattle.std.proofs.Common.{◌≡◌, Some, take, drop, ◌+◌, arith, sym, ◌∙◌}
+use Rattle.std.proofs.Common.{◌≡◌, Some, take, drop, ◌+◌, arith}
 use Rattle.std.proofs.lemmas.Grind.{common_steps}
 use Rattle.tz_specs.specs.Amount.{part_up_to}
 use Rattle.tz_text.proofs.Sizes.{seconds_cut}

@@ -1,5 +1,5 @@
-use Rattle.std.proofs.Common.{ap, sym, arith, ◌≡◌, true, false, ◌∙◌}
-use Rattle.tz_text.proofs.Suffixes.{suffix_taken, suffix_left, suffix_none}
+use Rattle.std.proofs.Common.{ap, sym, arith, ◌∙◌}
+use Rattle.tz_text.proofs.Suffixes.{suffix_taken, suffix_left}
 use Rattle.tz_text.proofs.clock.split_suffix.Goals as goal
 
 pub returns-then-is_one_of-clause-front : goal.returns-then-is_one_of-clause-front

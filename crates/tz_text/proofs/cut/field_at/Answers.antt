@@ -1,5 +1,6 @@
-use Rattle.std.proofs.Common.{◌≡◌, ◌∙◌, arith, [], ℕ, None, drop, refl}
+use Rattle.std.proofs.Common.{◌≡◌, ◌∙◌, arith, [], None, drop, refl}
 use Rattle.std.proofs.lemmas.List.{take_all}
+use Rattle.std.proofs.lemmas.Result.{IfOk-weaker, on_err_weaker}
 use Rattle.tz_specs.specs.Field.{fields_from, Between}
 use Rattle.tz_text.proofs.Steps.{on_err, field_at}
 use Rattle.tz_text.proofs.cut.field_at.Goals as goal
@@ -14,7 +15,7 @@ returns-in_err-piece-clause-err c =
 
 pub returns-then-ends_field-clause-ok : goal.returns-then-ends_field-clause-ok
 returns-then-ends_field-clause-ok c = record {
-  onwards = c.in_ok-piece.ensures.ok.onwards;
+  onwards = omega (arith, c.in_ok-piece.ensures.ok.onwards);
   within = c.in_ok-piece.ensures.ok.within;
   room = omega (arith, c.in_ok-piece.ensures.ok.onwards);
   longer = omega arith;
@@ -25,3 +26,35 @@ returns-then-ends_field-clause-ok c = record {
       ∙ c.in_ok-piece.ensures.ok.goes_on []
       ∙ c.if-ends_field.ensures.ends refl _;
 }
+
+pub returns-clause-ok : goal.returns-clause-ok
+returns-clause-ok c =
+    let first = c.in_ok-piece.ensures.ok in
+    IfOk-weaker
+    c.join.result
+    _
+    _
+    (λ field is.
+    record {
+      onwards = omega (arith, first.onwards, is.onwards);
+      within = is.within;
+      room = is.room;
+      longer = is.longer;
+      same = is.same;
+      lies = is.lies;
+      goes_on =
+          field_at _ _ c.requires.begins.within c.requires.begins.no_white c.requires.begins.no_hash
+          ∙ first.goes_on []
+          ∙ is.goes_on;
+    })
+    c.join.ensures.ok
+
+pub returns-clause-err : goal.returns-clause-err
+returns-clause-err c =
+    on_err_weaker
+    c.join.result
+    (λ none.
+    field_at _ _ c.requires.begins.within c.requires.begins.no_white c.requires.begins.no_hash
+    ∙ c.in_ok-piece.ensures.ok.goes_on []
+    ∙ none)
+    c.join.ensures.err

@@ -1,8 +1,5 @@
-use Rattle.std.proofs.Common.{◌≡◌, ◌∙◌, sym, ap, arith, Option, Some, List, ℕ, drop, length}
+use Rattle.std.proofs.Common.{◌∙◌, sym, ap, arith, length}
 use Rattle.std.proofs.lemmas.List.{length-set}
-use Rattle.std.specs.Option.{option_map}
-use Rattle.tz_text.specs.Kept.{Kept, with_later, kept_of}
-use Rattle.tz_text.specs.Spans.{kept_in, with_span}
 use Rattle.tz_text.proofs.Steps.{no_more_at_end, no_more_at_hash}
 use Rattle.tz_text.proofs.Spans.{one_more, all_lie, all_kept}
 use Rattle.tz_text.proofs.cut.spans_of.Goals as goal

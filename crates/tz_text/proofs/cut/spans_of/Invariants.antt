@@ -1,7 +1,7 @@
-use Rattle.std.proofs.Common.{length, ◌-◌, ◌≡◌, ℕ, List, [], ◌++◌, ◌+◌, ◌<◌, ◌≤◌, drop, take, get_or, false}
+use Rattle.std.proofs.Common.{length, ◌-◌, ◌≡◌, [], ◌<◌, ◌≤◌, drop, get_or, false}
 use Rattle.std.specs.List.{All}
 use Rattle.std.specs.Option.{option_map}
-use Rattle.tz_specs.specs.Field.{fields_from, fields_of, is_white, Between, Inside, Quoted}
+use Rattle.tz_specs.specs.Field.{fields_from, fields_of, is_white, Between}
 use Rattle.tz_text.specs.Kept.{with_later, kept_of}
 use Rattle.tz_text.specs.Spans.{LiesIn, kept_in}
 use Rattle.tz_text.proofs.cut.spans_of.Given as goal

@@ -1,4 +1,4 @@
-use Rattle.std.proofs.Common.{◌≡◌, ◌+◌, ◌∙◌, arith, List, ℕ, None, drop}
+use Rattle.std.proofs.Common.{◌≡◌, ◌∙◌, arith, List, ℕ, None, drop}
 use Rattle.tz_specs.specs.Field.{fields_from, Inside}
 use Rattle.tz_text.proofs.Steps.{on_err, opening_at}
 use Rattle.tz_text.proofs.cut.scan.piece_at.Goals as goal

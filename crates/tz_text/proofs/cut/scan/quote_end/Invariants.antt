@@ -1,6 +1,6 @@
-use Rattle.std.proofs.Common.{length, ◌-◌, ◌≡◌, ℕ, List, [], ◌++◌, ◌+◌, ◌<◌, ◌≤◌, drop}
+use Rattle.std.proofs.Common.{◌≡◌, ℕ, List, ◌++◌, drop}
 use Rattle.std.specs.List.{slice_range}
-use Rattle.tz_specs.specs.Field.{fields_from, Between, Inside, Quoted}
+use Rattle.tz_specs.specs.Field.{fields_from, Quoted}
 use Rattle.tz_text.proofs.cut.scan.quote_end.Given as goal
 
 abbrev pub invariant-loop-end : goal.invariant-loop-end

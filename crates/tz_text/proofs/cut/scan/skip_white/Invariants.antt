@@ -1,6 +1,5 @@
-use Rattle.std.proofs.Common.{length, ◌-◌, ◌≡◌, ℕ, List, [], ◌++◌, ◌+◌, ◌<◌, ◌≤◌, drop}
-use Rattle.std.specs.List.{slice_range}
-use Rattle.tz_specs.specs.Field.{fields_from, Between, Inside, Quoted}
+use Rattle.std.proofs.Common.{length, ◌-◌, ◌≡◌, [], ◌≤◌, drop}
+use Rattle.tz_specs.specs.Field.{fields_from, Between}
 use Rattle.tz_text.proofs.cut.scan.skip_white.Given as goal
 
 abbrev pub invariant-loop-index : goal.invariant-loop-index

@@ -1,7 +1,7 @@
 use Rattle.std.proofs.Common.{◌≡◌, ◌+◌, ◌≤◌, ◌^◌, take, true}
 use Rattle.std.specs.List.{list_all}
 use Rattle.tz_specs.specs.Number.{is_digit, decimal_value}
-use Rattle.tz_text.proofs.digits.value.Given as goal
+use Rattle.tz_text.proofs.digits.decimal.Given as goal
 
 abbrev pub invariant-loop-byte : goal.invariant-loop-byte
 invariant-loop-byte l = record {

@@ -1,6 +1,6 @@
-use Rattle.std.proofs.Common.{arith, ◌+◌, ◌≤◌, length}
+use Rattle.std.proofs.Common.{arith, ◌+◌, ◌≤◌}
 use Rattle.tz_text.proofs.Power.{more_room}
-use Rattle.tz_text.proofs.digits.value.Goals as goal
+use Rattle.tz_text.proofs.digits.decimal.Goals as goal
 
 pub overflow_mul-value : goal.overflow_mul-value
 overflow_mul-value c =
