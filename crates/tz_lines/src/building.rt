@@ -48,3 +48,51 @@ fn rise(lines: &[ZoneLine]) -> bool
     }
     false
 }
+
+/// The zones of a text, where the one that was begun is built.
+fn built(alloc: Global, begun: Option<Zone>) -> Result<Items<Zone>, ReadError>
+    requires { IsPlainBegun begun }
+    ensures ok { IfOk result (λ zones. built_after (written_begun begun) [] ≡ Some (map written_zone zones)) }
+    ensures plain { IfOk result (λ zones. IsTrue (list_all is_plain_zone zones)) }
+    ensures one { IfOk result (λ zones. length zones ≤ 1) }
+    ensures ascend { IfOk result (λ zones. IsTrue (ascends name_before (map (λ zone. zone.name) zones))) }
+    ensures lead { IfOk result (λ zones. (sets : List RuleSet) →
+        IsTrue (list_all (λ zone. leads first_instant end_of_time (periods_from sets first_instant zone.lines)) zones)) }
+    ensures err { IfErr result (λ e. MeansFault e (built_after (written_begun begun) [] ≡ None)) }
+{
+    let mut zones = Items::new(alloc);
+    let Some(zone) = begun else {
+        return Ok(zones);
+    };
+    if zone.lines.len() > 255 || !rise(zone.lines.as_slice()) {
+        return Err(ReadError::UNBUILT);
+    }
+    zones.push(zone)?;
+    Ok(zones)
+}
+
+/// Reads a text of at most 4,194,304 bytes whole. A text that isn't built yet is refused with line 1 and cause 0.
+pub fn read_zones(alloc: Global, text: &[u8]) -> Result<Db, ReadError>
+    requires { length text.now ≤ 4_194_304 }
+    ensures ok { IfOk result (λ db. Reads text.now db) }
+    ensures sound { IfOk result (λ db. IsTrue (is_sound db)) }
+    ensures refused { IfErr result (λ e. MeansFault e (IsUnbuilt text.now)) }
+{
+    let begun = match take_lines(alloc, text) {
+        Ok(begun) => begun,
+        Err(error) => return Err(error),
+    };
+    let zones = match built(alloc, begun) {
+        Ok(zones) => zones,
+        Err(error) => return Err(error),
+    };
+    let Ok(version) = VersionText::new(b"unknown") else {
+        unreachable!()
+    };
+    Ok(Db {
+        version,
+        sets: Items::new(alloc),
+        zones,
+        links: Items::new(alloc),
+    })
+}

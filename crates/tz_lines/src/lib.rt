@@ -13,5 +13,6 @@ mod locating;
 mod reading;
 mod values;
 
+pub use building::read_zones;
 pub use error::ReadError;
 pub use locating::locate;
