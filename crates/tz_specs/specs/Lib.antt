@@ -12,5 +12,10 @@ pub mod Until
 pub mod Abbreviation
 pub mod Expansion
 pub mod Sound
+pub mod Cover
 pub mod Local
+pub mod Standing
+pub mod Shown
+pub mod Effect
+pub mod Around
 pub mod Record

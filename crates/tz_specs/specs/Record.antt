@@ -1,6 +1,6 @@
 -- What a text says, line by line, after zic(8), "Zone lines": zone lines, and the lines that continue a zone.
 -- So far a text is built that has one zone at most, no quotes and no comments, plain formats and no rules.
-use Rattle.std.specs.Prelude.{ℕ, zero, suc, ◌+◌, ◌==◌, nat_le, nat_eq, Bool, true, false, not, ◌&&◌, ◌||◌, if◌then◌else◌, List, [], ◌∷◌, length, map, codes, ℤ, pos, unsigned_abs, int_lt, ◌≡◌, IsTrue, Option, Some, None, option_map, is_some, is_none, fold}
+use Rattle.std.specs.Prelude.{ℕ, ◌+◌, ◌==◌, nat_le, nat_eq, Bool, true, false, not, ◌&&◌, ◌||◌, if◌then◌else◌, List, [], ◌∷◌, length, map, codes, ℤ, unsigned_abs, int_lt, ◌≡◌, IsTrue, Option, Some, None, option_map, is_some}
 use Rattle.std.specs.List.{list_all, list_any}
 use Rattle.std.specs.Cmp.Lexicographic.{pointwise}
 use Rattle.tz_types.specs.Text.{is_printable}
@@ -11,12 +11,10 @@ use Rattle.tz_types.specs.declared.calendar.Month.{Month}
 use Rattle.tz_types.specs.declared.calendar.Month.TheVariants as months
 use Rattle.tz_types.specs.declared.calendar.On.{On}
 use Rattle.tz_types.specs.declared.calendar.On.TheVariants.{Day, Last, From, UpTo}
-use Rattle.tz_types.specs.declared.moment.AtKind.{AtKind}
 use Rattle.tz_types.specs.declared.moment.AtKind.TheVariants as kinds
 use Rattle.tz_types.specs.declared.moment.Moment.{Moment}
 use Rattle.tz_types.specs.declared.format.Format.{Format}
 use Rattle.tz_types.specs.declared.format.Format.TheVariants as formats
-use Rattle.tz_types.specs.declared.rule_set.RuleSet.{RuleSet}
 use Rattle.tz_types.specs.declared.zone_line.LineRules.{LineRules}
 use Rattle.tz_types.specs.declared.zone_line.LineRules.TheVariants as rules
 use Rattle.tz_types.specs.declared.zone_line.ZoneLine.{ZoneLine}

@@ -1,5 +1,5 @@
 -- Texts whose lines follow one another in time, and whose rules and links are known.
-use Rattle.std.specs.Prelude.{ℕ, Bool, true, ◌&&◌, List, [], ◌∷◌, length, nat_lt, int_lt, ℤ}
+use Rattle.std.specs.Prelude.{Bool, true, ◌&&◌, List, [], ◌∷◌, length, nat_lt, int_lt, ℤ}
 use Rattle.std.specs.List.{list_all}
 use Rattle.std.specs.Ordering.{int_eq}
 use Rattle.tz_types.specs.declared.rule_set.RuleSet.{RuleSet}

@@ -1,0 +1,21 @@
+ghost use Rattle.std.specs.Prelude.{◌≡◌, ℤ, pos, ◌+ℤ◌, ◌-ℤ◌, ◌<ℤ◌, ◌≤ℤ◌, List, Some, IsSome};
+ghost use Rattle.std.specs.List.{All};
+ghost use Rattle.jiff_core.specs.Calendar.{IsWithin};
+ghost use Rattle.tz_types.specs.declared.range.SysInfo.{SysInfo};
+ghost use Rattle.tz_types.specs.declared.range.LocalInfo.TheVariants.{Unique, Nonexistent, Ambiguous};
+ghost use Rattle.tz_specs.specs.Local.{local_info};
+ghost use Rattle.tz_specs.specs.Cover.{Covers};
+ghost use Rattle.tz_specs.specs.Shown.{IsShownOnce, IsShownTwice, IsInGap};
+
+/// Each local time is told that lies two days inside the ends of ranges whose offsets are at most two days.
+pub fn local_times_are_told()
+    ensures { (a b l : ℤ) (ranges : List SysInfo) → Covers a b ranges → All (λ range. IsWithin 172_800 range.offset) ranges → (a +ℤ pos 172_800) ≤ℤ l → l <ℤ (b -ℤ pos 172_800) → IsSome (local_info ranges l) }
+{}
+
+/// A unique local time is shown in its range alone, an ambiguous one first in the first range told and last in
+/// the second, and one that doesn't exist in none: it lies between the clocks of two neighbours.
+pub fn local_times_mean_what_they_say()
+    ensures unique { (l : ℤ) (ranges : List SysInfo) (range : SysInfo) → local_info ranges l ≡ Some (Unique range) → IsShownOnce ranges l range }
+    ensures ambiguous { (a b l : ℤ) (ranges : List SysInfo) (first second : SysInfo) → Covers a b ranges → local_info ranges l ≡ Some (Ambiguous first second) → IsShownTwice ranges l first second }
+    ensures nonexistent { (a b l : ℤ) (ranges : List SysInfo) (first second : SysInfo) → Covers a b ranges → local_info ranges l ≡ Some (Nonexistent first second) → IsInGap ranges l first second }
+{}
