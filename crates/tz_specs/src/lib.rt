@@ -2,6 +2,40 @@
 //! and laws about them, each the contract of a public function with an empty body.
 #![tactic(auto)]
 
+mod around_laws;
+mod cover_laws;
+mod effect_laws;
+mod expansion_laws;
 mod field;
+mod local_laws;
+mod occurrence_laws;
+mod range_laws;
+mod state_laws;
+mod zone_laws;
 
+pub use around_laws::{
+    lines_follow_one_another, next_change_takes_effect, range_around_an_instant,
+    range_of_a_line_is_found,
+};
+pub use cover_laws::{
+    cuts_rise, each_instant_has_one_range, leading_is_following_one_another, ranges_cover_time,
+    ranges_stand_in_order,
+};
+pub use effect_laws::{
+    in_force_is_put_by_what_is_in_effect, instants_follow_the_clock_before,
+    state_is_what_is_in_effect, taking_effect_is_coming_and_being_in_effect,
+    until_is_read_on_its_own_clock,
+};
+pub use expansion_laws::{line_without_rules_is_one_range, time_runs_from_midnight_to_midnight};
 pub use field::{at_most_one_list, no_list_where_open, one_reading};
+pub use local_laws::{local_times_are_told, local_times_mean_what_they_say};
+pub use occurrence_laws::{
+    nominal_second_rises, occurrences_are_rules_in_their_years, occurrences_differ,
+    occurrences_stand_in_order, precedes_is_an_order,
+};
+pub use range_laws::{
+    cuts_are_where_occurrences_take_effect, expansion_is_ranges_of_lines,
+    ranges_run_from_cut_to_cut,
+};
+pub use state_laws::{state_holds_at_its_instant, state_is_last_come};
+pub use zone_laws::sound_zones_tell_all_times;

@@ -1,6 +1,6 @@
 -- Days as zic(8) names them, under "Rule lines", ON: a day number, the last such weekday of the month,
 -- or the first one on or after, or the last one on or before, a day.
-use Rattle.std.specs.Prelude.{ℕ, ◌+◌, ◌-◌, ◌%◌, Bool, true, ◌&&◌, nat_le, if◌then◌else◌, ℤ, pos, ◌+ℤ◌, ◌-ℤ◌}
+use Rattle.std.specs.Prelude.{ℕ, ◌+◌, ◌-◌, ◌%◌, Bool, true, ◌&&◌, nat_le, if◌then◌else◌, ℤ, pos, ◌+ℤ◌, ◌-ℤ◌, ◌*ℤ◌, ◌≤ℤ◌, ◌<ℤ◌}
 use Rattle.std.specs.Ordering.{int_eq}
 use Rattle.jiff_core.specs.Calendar.{days_from_civil, days_in_month, weekday_number}
 use Rattle.tz_types.specs.declared.calendar.Month.{Month}
@@ -80,3 +80,12 @@ day_number year month (Last weekday) =
     on_or_before weekday (days_from_civil year (month_number month) (days_in_month year (month_number month)))
 day_number year month (From weekday day) = on_or_after weekday (counted_day year month day)
 day_number year month (UpTo weekday day) = on_or_before weekday (counted_day year month day)
+
+-- the second at which a civil year begins
+abbrev pub year_start : ℤ → ℤ
+year_start year = pos 86_400 *ℤ days_from_civil year 1 1
+
+-- the second lies in the civil year
+pub record LiesInYear (t year : ℤ) : Type 0 where
+  pub from : year_start year ≤ℤ t
+  pub before : t <ℤ year_start (year +ℤ pos 1)

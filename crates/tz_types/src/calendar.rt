@@ -1,8 +1,9 @@
-ghost use Rattle.std.specs.Prelude.{◌≡◌, ℕ, ◌+◌, ◌-◌, ◌<◌, ◌≤◌, pos, neg_ℤ, ◌+ℤ◌, ◌-ℤ◌, IsTrue};
+ghost use Rattle.std.specs.Prelude.{◌≡◌, ℕ, ◌+◌, ◌-◌, ◌<◌, ◌≤◌, pos, neg_ℤ, ◌+ℤ◌, ◌-ℤ◌, ◌≤ℤ◌, ◌<ℤ◌, IsTrue};
 ghost use Rattle.std.specs.Int.{IsInRange};
-ghost use Rattle.jiff_core.specs.Calendar.{days_from_civil, days_in_month, weekday_number, IsBetween};
+ghost use Rattle.jiff_core.specs.Calendar.{days_from_civil, days_in_month, weekday_number, IsBetween, IsYear, IsEpochDay};
+ghost use Rattle.jiff_core.specs.Date.{epoch_day};
 ghost use Rattle.tz_types.specs.Year.{IsRuleYear};
-ghost use Rattle.tz_types.specs.Calendar.{month_number, monday_zero, has_day, is_day_up_to, longest_month, counted_day, on_or_after, on_or_before, day_number};
+ghost use Rattle.tz_types.specs.Calendar.{month_number, monday_zero, has_day, is_day_up_to, longest_month, counted_day, on_or_after, on_or_before, day_number, LiesInYear};
 
 use jiff_core::civil::{Date, days_in_month};
 
@@ -181,4 +182,25 @@ pub fn day_of(year: i32, month: Month, on: On) -> i64
         On::From(weekday, day) => first_from(weekday, counted(year, month, day)),
         On::UpTo(weekday, day) => last_up_to(weekday, counted(year, month, day)),
     }
+}
+
+/// The civil day with that day number, where 1970-01-01 is 0.
+fn date_of(day: i64) -> Date
+    requires { IsEpochDay day }
+    ensures { epoch_day result ≡ day }
+{
+    match Date::from_unix_epoch_day(day) {
+        Ok(date) => date,
+        Err(_) => unreachable!(),
+    }
+}
+
+/// The civil year of an instant in universal time, in seconds from 1970-01-01 00:00:00.
+pub fn civil_year(t: i64) -> i32
+    requires from { neg_ℤ (pos 377_705_116_800) ≤ℤ t }
+    requires before { t <ℤ pos 253_402_300_800 }
+    ensures year { LiesInYear t result }
+    ensures bound { IsYear result }
+{
+    i32::from(date_of(t.div_euclid(86_400)).year)
 }

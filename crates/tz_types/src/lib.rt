@@ -25,7 +25,7 @@ mod until;
 mod zone;
 mod zone_line;
 
-pub use calendar::{Month, On, Weekday, day_of, has_day};
+pub use calendar::{Month, On, Weekday, civil_year, day_of, has_day};
 pub use counter::Steps;
 pub use database::Db;
 pub use fault::Fault;
