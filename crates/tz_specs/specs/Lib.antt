@@ -14,3 +14,4 @@ pub mod Expansion
 pub mod Sound
 pub mod Local
 pub mod Record
+pub mod LeapSecond
