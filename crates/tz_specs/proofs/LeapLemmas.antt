@@ -77,29 +77,29 @@ ascending_places_le xs up i j d upto within =
     (λ (back : j ≤ i). let same : i ≡ j = omega arith in rw same (omega (arith, ints)))
     (cases_lt i j)
 
-lt_true : (a b : ℤ) → a <ℤ b → int_lt a b ≡ true
+pub lt_true : (a b : ℤ) → a <ℤ b → int_lt a b ≡ true
 lt_true a b h = grind (arith, ints)
 
 lt_false : (a b : ℤ) → b ≤ℤ a → int_lt a b ≡ false
 lt_false a b h = grind (arith, ints)
 
-le_true : (a b : ℤ) → a ≤ℤ b → int_le a b ≡ true
+pub le_true : (a b : ℤ) → a ≤ℤ b → int_le a b ≡ true
 le_true a b h = grind (arith, ints)
 
 le_false : (a b : ℤ) → b <ℤ a → int_le a b ≡ false
 le_false a b h = grind (arith, ints)
 
-eq_true : (a b : ℤ) → a ≡ b → int_eq a b ≡ true
+pub eq_true : (a b : ℤ) → a ≡ b → int_eq a b ≡ true
 eq_true a b h = grind (arith, ints)
 
-eq_false : (a b : ℤ) → a ≢ b → int_eq a b ≡ false
+pub eq_false : (a b : ℤ) → a ≢ b → int_eq a b ≡ false
 eq_false a b h = grind (arith, ints)
 
 same_eq : (a b : ℤ) → int_eq a b ≡ true → a ≡ b
 same_eq a b h = grind (arith, ints)
 
 -- ---- what the definitions say in numbers of dates
-utc_count-is : (dates : List ℤ) (t : ℤ) → utc_count dates t ≡ t +ℤ pos (count_by (λ date. int_le date t) dates)
+pub utc_count-is : (dates : List ℤ) (t : ℤ) → utc_count dates t ≡ t +ℤ pos (count_by (λ date. int_le date t) dates)
 utc_count-is dates t = ap (λ (n : ℤ). t +ℤ n) (leap_seconds_are (λ date. int_le date t) dates)
 
 inserted_second-is : (dates : List ℤ) (date : ℤ) → inserted_second dates date ≡ date +ℤ pos (count_by (λ other. int_lt other date) dates)
@@ -241,13 +241,13 @@ place_between passes (suc most) down =
     (found.0, omega (arith, found.1), found.2, λ k h below. ⊎_elim (λ (before : k < most). found.3 k h before) (λ (from : most ≤ k). let same : k ≡ most = omega arith in rw same last) (cases_lt k most)))
     (cases_Bool (passes most))
 
-from_le : (a b : ℤ) → int_le a b ≡ true → a ≤ℤ b
+pub from_le : (a b : ℤ) → int_le a b ≡ true → a ≤ℤ b
 from_le a b h = grind (arith, ints)
 
 from_not_le : (a b : ℤ) → int_le a b ≡ false → b <ℤ a
 from_not_le a b h = grind (arith, ints)
 
-elapsed_exists : (dates : List ℤ) → ascends int_lt dates ≡ true → (u : ℤ) → (n : ℕ) × IsElapsed dates u n
+pub elapsed_exists : (dates : List ℤ) → ascends int_lt dates ≡ true → (u : ℤ) → (n : ℕ) × IsElapsed dates u n
 elapsed_exists dates up u =
     let passes : ℕ → Bool = λ k. int_le (get_or dates k (pos 0) +ℤ pos k) u in
     let found = place_between passes (length dates)
@@ -277,3 +277,34 @@ inserted_without dates u up without =
 pub without_inserted : (dates : List ℤ) (u : ℤ) → is_inserted dates u ≡ true → (t : ℤ) → utc_count dates t ≡ u → ⊥
 without_inserted dates u inserted t same =
     false_true (is_inserted dates u) (counted_from dates u t same).not_inserted inserted
+
+-- the count itself says which dates are counted
+pub elapsed_from_count : (dates : List ℤ) → ascends int_lt dates ≡ true → (u : ℤ) (n : ℕ) → pos n ≡ elapsed_by dates u → IsElapsed dates u n
+elapsed_from_count dates up u n count =
+    let found = elapsed_exists dates up u in
+    let same : n ≡ found.0 = omega (arith, ints, count, elapsed_by_place dates up u found.0 found.1) in
+    rw same found.1
+
+-- the UTC count is an inserted second where the last of those up to it is it
+pub inserted_place : (dates : List ℤ) → ascends int_lt dates ≡ true → (u : ℤ) (n k : ℕ) → IsElapsed dates u n → n ≡ k + 1 → int_eq (get_or dates k (pos 0)) (u -ℤ pos k) ≡ is_inserted dates u
+inserted_place dates up u n k elapsed next =
+    by_lt_z (get_or dates k (pos 0) +ℤ pos k) u
+    (λ past. eq_false (get_or dates k (pos 0)) (u -ℤ pos k) (λ same. omega (arith, ints, past, same))
+    ∙ sym (counted_place dates up u n elapsed (λ i d h. let same : i ≡ k = omega arith in rw (same, get_or_default dates k d (pos 0) (omega (arith, elapsed.within))) past)).not_inserted)
+    (λ last.
+    let same : get_or dates k (pos 0) +ℤ pos k ≡ u = omega (arith, ints, elapsed.upto k (pos 0) (omega arith)) in
+    eq_true (get_or dates k (pos 0)) (u -ℤ pos k) (omega (arith, ints, same))
+    ∙ sym (held_back_inserted dates u (u -ℤ pos n) (held_back_place dates up u n k (pos 0) next elapsed.within same)))
+
+pub none_inserted : (dates : List ℤ) → ascends int_lt dates ≡ true → (u : ℤ) → IsElapsed dates u 0 → is_inserted dates u ≡ false
+none_inserted dates up u elapsed =
+    (counted_place dates up u 0 elapsed (λ k d h. absurd (omega arith))).not_inserted
+
+-- from the same at one default, as a loop has it
+pub IsElapsed-from_places : (dates : List ℤ) (u : ℤ) (n : ℕ) → n ≤ length dates → ((k : ℕ) → k < n → (get_or dates k (pos 0) +ℤ pos k) ≤ℤ u) → ((k : ℕ) → n ≤ k → k < length dates → u <ℤ (get_or dates k (pos 0) +ℤ pos k)) → IsElapsed dates u n
+IsElapsed-from_places dates u n within upto after =
+    record {
+      within = within;
+      upto = λ k d before. rw (get_or_default dates k d (pos 0) (omega (arith, within))) (upto k before);
+      after = λ k d from below. rw (get_or_default dates k d (pos 0) below) (after k from below);
+    }
