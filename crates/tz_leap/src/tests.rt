@@ -142,3 +142,10 @@ fn refuses_dates_out_of_order(rt: HostRuntime) -> Result<(), Fail> {
     assert!(rt; leaps(rt.alloc(), [94694400, 78796800].as_slice())?.is_none());
     Ok(())
 }
+
+#[test]
+fn says_what_is_wrong(rt: HostRuntime) -> Result<(), Fail> {
+    let text = format!(in rt.alloc(); "{OutOfRange}")?;
+    assert_eq!(rt; text.as_str(), "the time is out of range");
+    Ok(())
+}

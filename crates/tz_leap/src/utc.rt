@@ -56,7 +56,7 @@ pub fn sys_of_utc(leaps: &Leaps, u: i64) -> Result<i64, OutOfRange>
     if !is_utc_count(leaps, u) {
         return Err(OutOfRange);
     }
-    // That of an inserted second is one less than the date, since the inserted second is counted with the others.
+    // An inserted second is among those taken off, so it comes out as the second before its date.
     Ok(u - elapsed_at(leaps.dates.as_slice(), u) as i64)
 }
 
