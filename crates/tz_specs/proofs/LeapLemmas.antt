@@ -1,15 +1,16 @@
 -- Leap seconds by the places of their dates.
-use Rattle.std.proofs.Common.{◌≡◌, ◌≢◌, ℕ, zero, suc, ◌+◌, ◌-◌, ◌<◌, ◌≤◌, Bool, true, false, ◌&&◌, cond, ◌⊎◌, inl, inr, ⊎_elim, refl, sym, ap, ◌∙◌, arith, List, [], ◌∷◌, length, get_or, IsTrue, ℤ, pos, ◌+ℤ◌, ◌-ℤ◌, ◌≤ℤ◌, ◌<ℤ◌, int_lt, int_le}
-use Rattle.std.specs.Prelude.{Contains}
+use Rattle.std.proofs.Common.{◌≡◌, ◌≢◌, ℕ, zero, suc, ◌+◌, ◌-◌, ◌<◌, ◌≤◌, Bool, true, false, ◌&&◌, cond, inl, inr, ⊎_elim, refl, sym, ap, ◌∙◌, arith, List, [], ◌∷◌, length, get_or, ℤ, pos, ◌+ℤ◌, ◌-ℤ◌, ◌≤ℤ◌, ◌<ℤ◌, int_lt, int_le}
+use Rattle.std.specs.Prelude.{All, Contains}
 use Rattle.std.specs.Ordering.{int_eq}
-use Rattle.std.specs.List.{count_by, list_any}
+use Rattle.std.specs.List.{count_by}
 use Rattle.std.proofs.lemmas.Int.{ints, by_lt_z}
 use Rattle.std.proofs.lemmas.Bool.{cases_Bool, cases_lt}
 use Rattle.std.proofs.lemmas.List.{get_or_default}
-use Rattle.std.proofs.lemmas.List.Sums.{sum_by-cons}
+use Rattle.std.proofs.lemmas.List.Sums.{sum_by-cons, count_by-le-length}
 use Rattle.std.proofs.lemmas.List.Folds.{list_any_none, list_any_at}
 use Rattle.tz_types.specs.Order.{ascends, ascends_after}
-use Rattle.tz_specs.specs.LeapSecond.{leap_seconds, utc_count, inserted_second, elapsed_by, is_inserted, IsHeldBack, IsCounted, IsSystemTime}
+use Rattle.tz_specs.specs.LeapSecond.{leap_seconds, utc_count, inserted_second, elapsed_by, is_inserted, IsHeldBack, IsCounted, IsSystemTime, IsUtcCount}
+use Rattle.tz_specs.specs.Expansion.{first_instant, end_of_time, IsInstant}
 
 -- ---- counts of what passes a test
 count_by-cons : (p : ℤ → Bool) (x : ℤ) (xs : List ℤ) → count_by p (x ∷ xs) ≡ cond (p x) 1 0 + count_by p xs
@@ -308,3 +309,23 @@ IsElapsed-from_places dates u n within upto after =
       upto = λ k d before. rw (get_or_default dates k d (pos 0) (omega (arith, within))) (upto k before);
       after = λ k d from below. rw (get_or_default dates k d (pos 0) below) (after k from below);
     }
+
+-- ---- the ranges of the clocks
+pub utc_count_in_range : (dates : List ℤ) (t : ℤ) → IsInstant t → IsUtcCount dates (utc_count dates t)
+utc_count_in_range dates t is =
+    let most = count_by-le-length (λ date. int_le date t) dates in
+    rw (utc_count-is dates t) (omega (arith, ints, is.0), omega (arith, ints, is.1, most))
+
+instant_place : (dates : List ℤ) (u : ℤ) (n : ℕ) → All (λ date. (first_instant <ℤ date) × (date ≤ℤ end_of_time)) dates → IsUtcCount dates u → IsElapsed dates u n → IsInstant (u -ℤ pos n)
+instant_place dates u n all is elapsed = (
+  ⊎_elim (λ (some : 0 < n). omega (arith, ints, elapsed.upto (n - 1) (pos 0) (omega arith), (all (n - 1) (pos 0) (omega (arith, elapsed.within))).0))
+      (λ (none : n ≤ 0). omega (arith, ints, is.0)) (cases_lt 0 n),
+  ⊎_elim (λ (later : n < length dates). omega (arith, ints, elapsed.after n (pos 0) (omega arith) later, (all n (pos 0) later).1))
+      (λ (none : length dates ≤ n). omega (arith, ints, is.1, elapsed.within)) (cases_lt n (length dates)),
+)
+
+pub system_time_in_range : (dates : List ℤ) (u t : ℤ) → ascends int_lt dates ≡ true → All (λ date. (first_instant <ℤ date) × (date ≤ℤ end_of_time)) dates → IsUtcCount dates u → IsSystemTime dates u t → IsInstant t
+system_time_in_range dates u t up all in_range is =
+    let found = elapsed_exists dates up u in
+    let same : t ≡ u -ℤ pos found.0 = system_time_once dates u t (u -ℤ pos found.0) is (system_time_place dates up u found.0 found.1) in
+    rw same (instant_place dates u found.0 all in_range found.1)

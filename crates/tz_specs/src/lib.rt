@@ -5,5 +5,6 @@
 mod leap_laws;
 
 pub use leap_laws::{
-    system_time_has_one_utc_count, utc_counts_have_one_system_time, utc_counts_rise,
+    clocks_keep_their_ranges, only_inserted_seconds_are_left_out, utc_count_gives_its_system_time,
+    utc_counts_have_one_system_time, utc_counts_rise,
 };

@@ -1,7 +1,7 @@
-use Rattle.std.proofs.Common.{◌≡◌, ◌≤◌, ◌<◌, ◌+◌, ◌-◌, ◌/◌, length, get_or, sym, arith, pos, ℤ, ◌+ℤ◌, ◌≤ℤ◌, ◌<ℤ◌, FitsSigned}
+use Rattle.std.proofs.Common.{◌≡◌, ◌<◌, ◌+◌, ◌-◌, ◌/◌, length, get_or, sym, arith, pos, ◌+ℤ◌, ◌≤ℤ◌, ◌<ℤ◌, FitsSigned}
 use Rattle.std.specs.Int.{w64}
 use Rattle.std.proofs.lemmas.Int.{ints, to_z-of_z}
-use Rattle.tz_specs.proofs.LeapLemmas.{IsElapsed, elapsed_by_place, IsElapsed-from_places}
+use Rattle.tz_specs.proofs.LeapLemmas.{elapsed_by_place, IsElapsed-from_places}
 use Rattle.tz_leap.proofs.SearchLemmas.{upto_place, after_place}
 use Rattle.tz_leap.proofs.search.elapsed_at.Goals as goal
 

@@ -1,7 +1,7 @@
 use Rattle.std.proofs.Common.{◌≡◌, ◌-◌, ◌∙◌, arith, get_or, ap, nat_eq, pos, ℤ, ◌-ℤ◌, FitsSigned, to_z, of_z, rules}
 use Rattle.std.specs.Int.{w64}
-use Rattle.std.proofs.lemmas.Int.{ints, to_z-of_z}
-use Rattle.tz_specs.proofs.LeapLemmas.{elapsed_from_count, inserted_place, none_inserted}
+use Rattle.std.proofs.lemmas.Int.{ints}
+use Rattle.tz_specs.proofs.LeapLemmas.{elapsed_from_count, inserted_place}
 use Rattle.tz_leap.proofs.SearchLemmas.{same_bits, none_below}
 use Rattle.tz_leap.proofs.utc.is_inserted_second.Goals as goal
 

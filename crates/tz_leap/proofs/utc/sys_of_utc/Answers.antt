@@ -1,4 +1,4 @@
-use Rattle.std.proofs.Common.{rules, ◌≡◌, ◌≤◌, ◌∙◌, sym, ap, length, arith, pos, ℤ, ◌-ℤ◌, FitsSigned, List, to_z, of_z}
+use Rattle.std.proofs.Common.{rules, ◌≡◌, ◌≤◌, ◌∙◌, ap, length, arith, pos, ℤ, ◌-ℤ◌, FitsSigned, List, to_z, of_z}
 use Rattle.std.specs.Int.{w64}
 use Rattle.std.proofs.lemmas.Int.{ints, to_z-of_z}
 use Rattle.tz_specs.specs.LeapSecond.{elapsed_by, IsUtcCount}

@@ -1,4 +1,4 @@
-use Rattle.std.proofs.Common.{◌≡◌, ◌≤◌, ◌∙◌, sym, ap, length, arith, int_le, pos, ℤ, ◌+ℤ◌, FitsSigned, List}
+use Rattle.std.proofs.Common.{◌≡◌, ◌≤◌, ◌∙◌, ap, length, arith, int_le, ℤ, FitsSigned}
 use Rattle.std.specs.Int.{w64}
 use Rattle.std.specs.List.{count_by}
 use Rattle.std.proofs.lemmas.Int.{ints, to_z-of_z}
