@@ -16,3 +16,4 @@ pub mod AroundLemmas
 pub mod OffsetLemmas
 pub mod Heads
 pub mod Standing
+pub mod LeapLemmas

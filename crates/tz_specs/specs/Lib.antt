@@ -19,3 +19,4 @@ pub mod Shown
 pub mod Effect
 pub mod Around
 pub mod Record
+pub mod LeapSecond

@@ -1,0 +1,19 @@
+//! The clocks of UTC, TAI and GPS: system times, which know no leap seconds, to the counts of these clocks and back.
+//!
+//! A UTC count is the number of seconds since 1970-01-01 00:00:00, the inserted ones among them. The leap dates
+//! say where seconds were inserted: each is the instant of the midnight that follows one. No call allocates, each
+//! searches the dates at most once, and each takes every `i64`: one that isn't in its range is answered by `OutOfRange`.
+//! A system time is in range from -9999-01-01 up to but excluding 10000-01-01. For a UTC count the range ends as
+//! many seconds later as there are leap dates. The layer above brings the dates, as `Leaps` of `tz_types`.
+#![tactic(auto)]
+
+mod atomic;
+mod out_of_range;
+mod search;
+#[cfg(test)]
+mod tests;
+mod utc;
+
+pub use atomic::{gps_of_utc, tai_of_utc, utc_of_gps, utc_of_tai};
+pub use out_of_range::OutOfRange;
+pub use utc::{LeapInfo, leap_info, sys_of_utc, utc_of_sys};
