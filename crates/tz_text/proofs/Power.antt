@@ -2,10 +2,10 @@
 use Rattle.std.proofs.Common.{ℕ, ◌+◌, ◌<◌, ◌≤◌, ◌^◌, Option, Some, None, IfSome, lit<, arith}
 use Rattle.std.proofs.Math.Nat.{pow-le-pow_right}
 
--- after fewer than twelve digits there is room for one more
-pub more_room : (value digits : ℕ) → value + 1 ≤ 10 ^ digits → digits < 12 → value + 1 ≤ 100_000_000_000
+-- after fewer than fifteen digits there is room for one more
+pub more_room : (value digits : ℕ) → value + 1 ≤ 10 ^ digits → digits < 15 → value + 1 ≤ 100_000_000_000_000
 more_room value digits fits few =
-    omega (arith, pow-le-pow_right {n = 10} (lit< tt) {i = digits} {j = 11} (omega arith))
+    omega (arith, pow-le-pow_right {n = 10} (lit< tt) {i = digits} {j = 14} (omega arith))
 
 -- a value of so many digits is below the power for more of them
 pub below_wider : (value : Option ℕ) (digits most : ℕ) → digits ≤ most → IfSome value (λ v. v < 10 ^ digits) → IfSome value (λ v. v < 10 ^ most)

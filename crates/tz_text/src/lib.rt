@@ -16,7 +16,7 @@ mod table;
 pub use clock::amount;
 pub use cut::{Fields, Joined, OpenQuote};
 pub use day::on;
-pub use digits::year;
+pub use digits::{signed_number, year};
 pub use duration::Amount;
 pub use output::put_number;
 pub use table::named;

@@ -1,0 +1,41 @@
+/// How a command ended.
+#[derive(Clone, Copy, Debug, PartialEq, Eq, Hash)]
+pub enum Status {
+    Ok,
+    Usage,
+    Text,
+    Script,
+    Read,
+    Write,
+    Memory,
+    NoZone,
+    Range,
+    Local,
+    TooLarge,
+}
+
+/// What `run_plain` did: nothing, since the words are those of a command over shared lists, or all of the command.
+#[derive(Clone, Copy, Debug, PartialEq, Eq, Hash)]
+pub enum Plain {
+    Shared,
+    Done(Status),
+}
+
+impl Status {
+    /// The exit status of the program.
+    pub fn code(self) -> u8 {
+        match self {
+            Status::Ok => 0,
+            Status::Usage => 2,
+            Status::Text => 3,
+            Status::Script => 4,
+            Status::Read => 5,
+            Status::Write => 6,
+            Status::Memory => 7,
+            Status::NoZone => 8,
+            Status::Range => 9,
+            Status::Local => 10,
+            Status::TooLarge => 11,
+        }
+    }
+}
