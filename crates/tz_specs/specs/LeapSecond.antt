@@ -12,7 +12,7 @@ leap_seconds passes [] = pos 0
 leap_seconds passes (date ∷ dates) =
     (if passes date then pos 1 else pos 0) +ℤ leap_seconds passes dates
 
--- the UTC count of a system time: that of the leap dates at or before it is added
+-- the UTC count of a system time: it, and the seconds that the leap dates at or before it put in
 abbrev pub utc_count : List ℤ → ℤ → ℤ
 utc_count dates t = t +ℤ leap_seconds (λ date. int_le date t) dates
 
@@ -20,11 +20,11 @@ utc_count dates t = t +ℤ leap_seconds (λ date. int_le date t) dates
 abbrev pub inserted_second : List ℤ → ℤ → ℤ
 inserted_second dates date = date +ℤ leap_seconds (λ other. int_lt other date) dates
 
--- the inserted seconds at or before a UTC count
+-- how many inserted seconds lie at or before a UTC count, itself among them
 abbrev pub elapsed_by : List ℤ → ℤ → ℤ
 elapsed_by dates u = leap_seconds (λ date. int_le (inserted_second dates date) u) dates
 
--- the UTC count is that of an inserted second
+-- the UTC count is the inserted second of one of the leap dates
 abbrev pub is_inserted : List ℤ → ℤ → Bool
 is_inserted dates u = list_any (λ date. int_eq (inserted_second dates date) u) dates
 
