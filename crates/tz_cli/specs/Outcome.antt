@@ -21,14 +21,12 @@ abbrev pub OfInfo : List (List ℕ) → Option (List ℕ → Option (List ℕ)) 
 OfInfo words told says = (command : Info) × IsInfo words command × OfContent told command.text (says command)
 
 -- The line of the range of the zone named was added to what the sink has.
-abbrev pub Prints : Option (List ℕ) → Option (List ℕ) → Info → List ℕ → Type 0
-Prints before now command text =
-    (line : List ℕ) × IsInfoLine text command.zone command.instant line × Appends before now line
+abbrev pub Prints : Option (List ℕ) → Option (List ℕ) → List ℕ → ℤ → List ℕ → Type 0
+Prints before now zone t text = (line : List ℕ) × IsInfoLine text zone t line × Appends before now line
 
 -- A part of that line that isn't all of it was added.
-abbrev pub PrintsPart : Option (List ℕ) → Option (List ℕ) → Info → List ℕ → Type 0
-PrintsPart before now command text =
-    (line : List ℕ) × IsInfoLine text command.zone command.instant line × AppendsPart before now line
+abbrev pub PrintsPart : Option (List ℕ) → Option (List ℕ) → List ℕ → ℤ → List ℕ → Type 0
+PrintsPart before now zone t text = (line : List ℕ) × IsInfoLine text zone t line × AppendsPart before now line
 
 -- What the answer of an inner step says of the text: the line, or the reason for none. Want of memory has none.
 abbrev pub Gives : Result (Vec ℕ Global) Status → List ℕ → List ℕ → ℤ → Type 0

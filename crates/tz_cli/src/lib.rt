@@ -4,8 +4,11 @@
 //! that holds an instant.
 #![tactic(auto)]
 
+mod info;
 mod line;
 mod status;
+mod top;
 mod words;
 
 pub use status::{Plain, Status};
+pub use top::run_plain;

@@ -1,0 +1,20 @@
+-- Lists of four words.
+use Rattle.std.proofs.Common.{◌≡◌, Bool, true, false, not, bytes_eq, ℕ, suc, List, [], ◌∷◌, length, map, get_or, refl, arith}
+use Rattle.std.proofs.lemmas.Slice.Eq.{bytes_eq-Decides}
+
+-- a list of four elements is those at its four places
+pub four : {A : Type 0} (xs : List A) (a b c d : A) → length xs ≡ 4 → a ≡ get_or xs 0 a → b ≡ get_or xs 1 b → c ≡ get_or xs 2 c → d ≡ get_or xs 3 d → xs ≡ a ∷ b ∷ c ∷ d ∷ []
+four [] a b c d h p q r s = absurd (omega arith)
+four (w ∷ []) a b c d h p q r s = absurd (omega arith)
+four (w ∷ x ∷ []) a b c d h p q r s = absurd (omega arith)
+four (w ∷ x ∷ y ∷ []) a b c d h p q r s = absurd (omega arith)
+four (w ∷ x ∷ y ∷ z ∷ []) a b c d h p q r s = cc
+four (w ∷ x ∷ y ∷ z ∷ v ∷ xs) a b c d h p q r s = absurd (omega arith)
+
+-- texts that are alike byte by byte are equal
+pub alike : (word entry : List ℕ) → false ≡ not (bytes_eq word entry) → word ≡ entry
+alike word entry h = (bytes_eq-Decides word entry).0 (yes_not (bytes_eq word entry) h)
+  where
+    yes_not : (b : Bool) → false ≡ not b → b ≡ true
+    yes_not true h = refl
+    yes_not false h = cc

@@ -1,0 +1,3 @@
+pub mod InfoLine
+pub mod Four
+pub mod Contents

@@ -1,0 +1,25 @@
+use Rattle.std.proofs.Common.{◌≡◌, ℕ, List, [], ◌∷◌, length, map, Some, codes, string_bytes, String, sym, ap, ◌∙◌, rules, FitsSigned, arith}
+use Rattle.std.specs.Int.{w64}
+use Rattle.std.specs.declared.alloc.Global.{Global}
+use Rattle.std.proofs.lemmas.Int.{to_z-of_z}
+use Rattle.tz_cli.specs.Outcome.{words_of}
+use Rattle.tz_cli.proofs.Four.{four, alike}
+use Rattle.tz_cli.proofs.words.info_words.Goals as goal
+
+pub returns-in-Some-clause-some : goal.returns-in-Some-clause-some
+returns-in-Some-clause-some c =
+    let words = c.args.words.now in
+    let keyword = c.keyword-item.result in
+    let text = c.text-item.result in
+    let zone = c.zone-item.result in
+    let number = c.number-item.result in
+    let long : length words ≡ 4 = omega arith in
+    let all = four words keyword text zone number long c.keyword-item.is c.text-item.is c.zone-item.is c.number-item.is in
+    let instant_fits : FitsSigned w64 c.in-Some.instant = search rules in
+    let is_word : c.as_str.result.now ≡ codes "info" = alike c.as_str.result.now (codes "info") c.if-ne.ensures in
+    let first : string_bytes keyword ≡ codes "info" = sym c.as_str.ensures.value ∙ is_word in
+    rw (to_z-of_z, c.as_str-in-Some.ensures.value, c.as_str-in-Some-2.ensures.value) (record {
+      number = string_bytes number;
+      words_are = ap words_of all ∙ ap (λ (word : List ℕ). word ∷ string_bytes text ∷ string_bytes zone ∷ string_bytes number ∷ []) first;
+      instant_is = sym (rw c.as_bytes.ensures.value at c.in-Some.ensures.value);
+    })

@@ -1,0 +1,30 @@
+//! The program `tzlist`: its words are handed to `run_plain`, over the real files and standard output.
+#![tactic(auto)]
+
+use std::env;
+use std::io;
+use std::process::ExitCode;
+use std::rt::Env;
+use tz_cli::{Plain, Status, run_plain};
+use tz_io::{RealFiles, RealSink};
+
+/// The words of the command line, without the program's name.
+fn words(rt: &(impl Env + AllocGlobal)) -> io::Result<Vec<String>> {
+    let mut words = Vec::new(rt.alloc());
+    for word in env::args(rt)?.skip(1) {
+        words.push(word)?;
+    }
+    Ok(words)
+}
+
+fn main(rt: HostRuntime) -> ExitCode {
+    let Ok(words) = words(&rt) else {
+        return ExitCode::from(Status::Memory.code());
+    };
+    let mut files = RealFiles::new(&rt);
+    let mut sink = RealSink::new(&rt);
+    match run_plain(rt.alloc(), words.as_slice(), &mut files, &mut sink) {
+        Plain::Done(status) => ExitCode::from(status.code()),
+        Plain::Shared => ExitCode::from(Status::Usage.code()),
+    }
+}
