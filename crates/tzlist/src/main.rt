@@ -1,10 +1,9 @@
 //! The program `tzlist`: its words are handed to `run_plain`, over the real files and standard output.
 #![tactic(auto)]
 
-use std::env;
-use std::io;
 use std::process::ExitCode;
 use std::rt::Env;
+use std::{env, io};
 use tz_cli::{Plain, Status, run_plain};
 use tz_io::{RealFiles, RealSink};
 
