@@ -1,3 +1,4 @@
 pub mod InfoLine
 pub mod Four
 pub mod Contents
+pub mod Exact

@@ -1,5 +1,5 @@
 -- What `info` answers over a text.
-use Rattle.std.specs.Prelude.{◌≡◌, ℕ, ◌<◌, ◌⊎◌, List, ℤ, Option, Some, None, IsSome, slice_get, length}
+use Rattle.std.specs.Prelude.{◌≡◌, ℕ, ◌<◌, ◌≤◌, ◌⊎◌, List, ℤ, Option, Some, None, IsSome, slice_get, length}
 use Rattle.tz_types.specs.declared.range.SysInfo.{SysInfo}
 use Rattle.tz_types.specs.declared.zone.Zone.{Zone}
 use Rattle.tz_types.specs.declared.database.Db.{Db}
@@ -14,6 +14,7 @@ most_bytes = 4_194_304
 
 -- The line is that of the range that holds the instant, in the full expansion of the zone named, of the text.
 pub record IsInfoLine (text name : List ℕ) (t : ℤ) (line : List ℕ) : Type 0 where
+  pub short : length text ≤ most_bytes
   pub db : Db
   pub reads : Reads text db
   pub place : ℕ
@@ -21,17 +22,20 @@ pub record IsInfoLine (text name : List ℕ) (t : ℤ) (line : List ℕ) : Type 
   pub zone : Zone
   pub there : slice_get db.zones place ≡ Some zone
   pub range : SysInfo
+  pub inside : IsInstant t
   pub holds : range_at (full_expansion (periods_of db zone)) t ≡ Some range
   pub line_is : line ≡ range_line range
 
 -- No zone and no link of the text has the name.
 pub record HasNoZone (text name : List ℕ) : Type 0 where
+  pub short : length text ≤ most_bytes
   pub db : Db
   pub reads : Reads text db
   pub none : located db name ≡ None
 
 -- The text has the zone, and the instant lies outside of time.
 pub record IsOutOfRange (text name : List ℕ) (t : ℤ) : Type 0 where
+  pub short : length text ≤ most_bytes
   pub db : Db
   pub reads : Reads text db
   pub there : IsSome (located db name)

@@ -1,5 +1,5 @@
 -- What each status says.
-use Rattle.std.specs.Prelude.{◌≡◌, ℕ, ◌<◌, List, Option, Some, None, Result, Ok, Err, Vec, length, ℤ, String, string_bytes, map}
+use Rattle.std.specs.Prelude.{◌≡◌, ℕ, ◌<◌, ◌⊎◌, List, Option, Some, None, Result, Ok, Err, Vec, length, ℤ, String, string_bytes, map}
 use Rattle.std.specs.declared.alloc.Global.{Global}
 use Rattle.tz_io.specs.Sink.{Appends, AppendsPart}
 use Rattle.tz_cli.specs.Command.{Info, IsInfo}
@@ -36,3 +36,28 @@ Gives (Err statuses.Text) text name t = IsRefused text
 Gives (Err statuses.NoZone) text name t = HasNoZone text name
 Gives (Err statuses.Range) text name t = IsOutOfRange text name t
 Gives (Err _) text name t = ⊥
+
+-- that status, or want of memory
+abbrev pub OrMemory : Status → Status → Type 0
+OrMemory status due = (status ≡ due) ⊎ (status ≡ statuses.Memory)
+
+-- Where nothing fails outside, each reason has its status, but for want of memory.
+pub record IsExact (text name : List ℕ) (t : ℤ) (status : Status) : Type 0 where
+  pub refused : IsRefused text → OrMemory status statuses.Text
+  pub no_zone : HasNoZone text name → OrMemory status statuses.NoZone
+  pub out_of_range : IsOutOfRange text name t → OrMemory status statuses.Range
+  pub printed : (line : List ℕ) → IsInfoLine text name t line → OrMemory status statuses.Ok
+
+-- the number with which the program ends
+abbrev pub exit_code : Status → ℕ
+exit_code statuses.Ok = 0
+exit_code statuses.Usage = 2
+exit_code statuses.Text = 3
+exit_code statuses.Script = 4
+exit_code statuses.Read = 5
+exit_code statuses.Write = 6
+exit_code statuses.Memory = 7
+exit_code statuses.NoZone = 8
+exit_code statuses.Range = 9
+exit_code statuses.Local = 10
+exit_code statuses.TooLarge = 11

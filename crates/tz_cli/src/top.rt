@@ -2,7 +2,8 @@ ghost use Rattle.std.specs.Prelude.{◌≡◌, ◌≢◌, ◌↔◌, ◌⊎◌, 
 ghost use Rattle.tz_io.specs.Counts.{Rose};
 ghost use Rattle.tz_cli.specs.Command.{Info, IsInfo};
 ghost use Rattle.tz_cli.specs.Answer.{HasNoZone, IsOutOfRange, IsRefused};
-ghost use Rattle.tz_cli.specs.Outcome.{words_of, OfContent, OfInfo, Prints, PrintsPart};
+ghost use Rattle.tz_cli.specs.Outcome.{words_of, OfContent, OfInfo, Prints, PrintsPart, IsExact};
+ghost use Rattle.tz_cli.specs.declared.status.Status.{Status};
 
 use crate::info::info_line;
 use crate::words::info_words;
@@ -82,6 +83,12 @@ pub fn run_plain<F: Files, S: Sink>(
     // 8 and 9: the text has no such name, or it has and the instant lies outside of time.
     ensures no_zone { result ≡ Plain.Done Status.NoZone → OfInfo (words_of words.now) (F.told files.old) (λ command text. HasNoZone text command.zone) }
     ensures range { result ≡ Plain.Done Status.Range → OfInfo (words_of words.now) (F.told files.old) (λ command text. IsOutOfRange text command.zone command.instant) }
+
+    // Where no fault and no stall was counted, 0, 3, 8 and 9 come exactly for these reasons, but for want of memory.
+    ensures exact { (command : Info) (contents : List ℕ → Option (List ℕ)) (content : List ℕ) → IsInfo (words_of words.now) command →
+        F.told files.old ≡ Some contents → contents command.text ≡ Some content → ¬ (Rose (F.faults files.old command.text) (F.faults files.new command.text)) →
+        ¬ (Rose (S.faults sink.old) (S.faults sink.new)) → ¬ (Rose (S.stalls sink.old) (S.stalls sink.new)) →
+        (status : Status) → result ≡ Plain.Done status → IsExact content command.zone command.instant status }
 
     // No other answer comes, a refusal writes nothing, and the files stay as they were.
     ensures never { (result ≢ Plain.Shared) × (result ≢ Plain.Done Status.Script) × (result ≢ Plain.Done Status.Local) × (result ≢ Plain.Done Status.TooLarge) }
