@@ -17,8 +17,13 @@ fn words(rt: &(impl Env + AllocGlobal)) -> io::Result<Vec<String>> {
 }
 
 fn main(rt: HostRuntime) -> ExitCode {
-    let Ok(words) = words(&rt) else {
-        return ExitCode::from(Status::Memory.code());
+    let words = match words(&rt) {
+        Ok(words) => words,
+        // A word that isn't UTF-8 is no word of any command.
+        Err(error) if error.kind() == io::ErrorKind::InvalidData => {
+            return ExitCode::from(Status::Usage.code());
+        }
+        Err(_) => return ExitCode::from(Status::Memory.code()),
     };
     let mut files = RealFiles::new(&rt);
     let mut sink = RealSink::new(&rt);
