@@ -1,0 +1,11 @@
+//! The meaning of zones computed plainly: every occurrence is listed, every line cut, every range looked at,
+//! just as the definitions say. It is slow, and stays so: faster programs are compared with it.
+//!
+//! The contract of each function is its definition. Nothing that is shipped stands on this crate.
+#![tactic(auto)]
+
+mod listing;
+mod rule_year;
+
+pub use listing::occurrences;
+pub use rule_year::RuleYear;
