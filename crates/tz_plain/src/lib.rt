@@ -6,6 +6,10 @@
 
 mod listing;
 mod rule_year;
+mod saving;
+mod state;
 
 pub use listing::occurrences;
 pub use rule_year::RuleYear;
+pub use saving::{Saving, in_force};
+pub use state::{instants, state_at};
