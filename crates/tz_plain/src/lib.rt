@@ -4,12 +4,16 @@
 //! The contract of each function is its definition. Nothing that is shipped stands on this crate.
 #![tactic(auto)]
 
+mod keeping;
 mod listing;
+mod naming;
 mod rule_year;
 mod saving;
 mod state;
 
+pub use keeping::Keeping;
 pub use listing::occurrences;
+pub use naming::abbreviation;
 pub use rule_year::RuleYear;
 pub use saving::{Saving, in_force};
 pub use state::{instants, state_at};
