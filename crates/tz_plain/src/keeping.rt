@@ -1,12 +1,13 @@
 ghost use Rattle.std.specs.Prelude.{◌≡◌, ℤ, pos, IsTrue, IfOk, slice_get};
 ghost use Rattle.tz_types.specs.Amount.{IsShift};
-ghost use Rattle.tz_plain.specs.Kept.{state_kept};
+ghost use Rattle.tz_specs.specs.Until.{until_instant};
+ghost use Rattle.tz_plain.specs.Kept.{state_kept, instants_kept};
 
-use crate::state::{instants, state_at};
-use crate::{RuleYear, Saving, in_force, occurrences};
+use crate::until::{until_among, until_with};
+use crate::{RuleYear, Saving, in_force, instants, occurrences, state_at};
 use std::alloc::Global;
 use std::marker::Model;
-use tz_types::{NoMemory, RuleSet};
+use tz_types::{NoMemory, RuleSet, Until};
 
 /// A rule set, with its occurrences and when they take effect.
 #[derive(Debug, Drop)]
@@ -95,6 +96,16 @@ impl<'a> Keeping<'a> {
         self.stdoff
     }
 
+    /// When the occurrences that are followed take effect, in their order.
+    pub fn instants(&self) -> &[i64]
+        ensures { result.now ≡ instants_kept self.now.stdoff self.now.following }
+    {
+        match &self.follows {
+            Follows::Nothing | Follows::Fixed { .. } => &[],
+            Follows::Rules(listed) => listed.instants.as_slice(),
+        }
+    }
+
     /// What is in force at an instant.
     pub fn state(&self, t: i64) -> Saving
         ensures { result ≡ state_kept self.now t }
@@ -106,6 +117,23 @@ impl<'a> Keeping<'a> {
                 let number = state_at(listed.instants.as_slice(), t);
                 in_force(listed.list.as_slice(), number)
             }
+        }
+    }
+
+    /// The instant of an UNTIL: the one while the first occurrence is in effect whose successor doesn't come before it.
+    #[tactic(auto, unfolding(tz_specs::specs::Until::until_instant))]
+    pub fn until(&self, until: &Until) -> i64
+        ensures { result ≡ until_instant self.now.following self.now.stdoff until.now.year until.now.moment }
+    {
+        match &self.follows {
+            Follows::Nothing => until_with(until, self.stdoff, 0),
+            Follows::Fixed { save, .. } => until_with(until, self.stdoff, *save),
+            Follows::Rules(listed) => until_among(
+                listed.list.as_slice(),
+                listed.instants.as_slice(),
+                self.stdoff,
+                until,
+            ),
         }
     }
 }

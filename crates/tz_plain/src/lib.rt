@@ -6,14 +6,21 @@
 
 mod keeping;
 mod listing;
+mod local;
 mod naming;
+mod placed_line;
 mod rule_year;
 mod saving;
 mod state;
+mod until;
+mod zone;
 
 pub use keeping::Keeping;
 pub use listing::occurrences;
+pub use local::{candidates, chosen_instant, local_info, range_at};
 pub use naming::abbreviation;
+pub use placed_line::{PlacedLine, cuts, full_expansion};
 pub use rule_year::RuleYear;
 pub use saving::{Saving, in_force};
 pub use state::{instants, state_at};
+pub use zone::periods;
