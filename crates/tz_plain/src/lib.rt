@@ -23,4 +23,7 @@ pub use placed_line::{PlacedLine, cuts, full_expansion};
 pub use rule_year::RuleYear;
 pub use saving::{Saving, in_force};
 pub use state::{instants, state_at};
-pub use zone::periods;
+pub use zone::{expansion, periods};
+
+#[cfg(test)]
+mod tests;

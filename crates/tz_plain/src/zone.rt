@@ -1,11 +1,11 @@
 ghost use Rattle.std.specs.Prelude.{◌≡◌, List, IfOk};
 ghost use Rattle.tz_types.specs.declared.rule_set.RuleSet.{RuleSet};
-ghost use Rattle.tz_specs.specs.Expansion.{following_of, finish_of, periods_of};
+ghost use Rattle.tz_specs.specs.Expansion.{following_of, finish_of, periods_of, full_expansion};
 
-use crate::{Keeping, PlacedLine};
+use crate::{Keeping, PlacedLine, full_expansion};
 use std::alloc::Global;
 use tz_types::{
-    Db, END_OF_TIME, FIRST_INSTANT, LineRules, NoMemory, RuleSet, Shared, Zone, ZoneLine,
+    Db, END_OF_TIME, FIRST_INSTANT, LineRules, NoMemory, RuleSet, Shared, SysInfo, Zone, ZoneLine,
 };
 
 /// The clock that a line keeps. A set that isn't there is none.
@@ -55,4 +55,12 @@ fn finish_of(keeping: &Keeping<'_>, line: &ZoneLine) -> i64
         None => END_OF_TIME,
         Some(until) => keeping.until(until),
     }
+}
+
+/// Every range of a zone, in the order of time.
+pub fn expansion(alloc: Global, db: &Db, zone: &Zone) -> Result<Vec<SysInfo>, NoMemory>
+    ensures { IfOk result (λ ranges. ranges.items ≡ full_expansion (periods_of db.now zone.now)) }
+{
+    let lines = periods(alloc, db, zone)?;
+    full_expansion(alloc, lines.as_slice())
 }
