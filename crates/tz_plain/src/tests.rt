@@ -277,7 +277,12 @@ fn ends_with_a_rule(alloc: Global) -> Result<Db, Fail> {
     ]?;
     let until = Until {
         year: 2010,
-        moment: october,
+        moment: Moment {
+            month: Month::October,
+            on: On::Day(1),
+            at: 7200,
+            kind: AtKind::Wall,
+        },
     };
     let lines = vec![in alloc;
         line_of(
