@@ -1,5 +1,4 @@
-use Rattle.std.proofs.Common.{◌≡◌, ◌+◌, ◌-◌, ◌<◌, length, ap, sym, ◌∙◌, arith}
-use Rattle.tz_specs.specs.Occurrence.{occurrences}
+use Rattle.std.proofs.Common.{◌+◌, ◌-◌, length, arith}
 use Rattle.tz_plain.proofs.InOrder.{rule_back, all_rules}
 use Rattle.tz_plain.proofs.listing.occurrences.Goals as goal
 

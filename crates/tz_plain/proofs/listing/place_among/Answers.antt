@@ -1,5 +1,4 @@
-use Rattle.std.proofs.Common.{◌≡◌, ◌++◌, length, take, drop, sym, ◌∙◌, subst, ℕ, arith}
-use Rattle.tz_specs.specs.Occurrence.{put_in_order}
+use Rattle.std.proofs.Common.{length, sym, ◌∙◌, arith}
 use Rattle.tz_plain.proofs.InOrder.{place_later, place_here, place_last}
 use Rattle.tz_plain.proofs.listing.place_among.Goals as goal
 

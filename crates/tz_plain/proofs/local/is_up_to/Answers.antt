@@ -1,6 +1,6 @@
-use Rattle.std.proofs.Common.{arith, rules, FitsSigned}
+use Rattle.std.proofs.Common.{rules, FitsSigned}
 use Rattle.std.specs.Int.{w64, w128}
-use Rattle.std.proofs.lemmas.Int.{ints, to_z-of_z}
+use Rattle.std.proofs.lemmas.Int.{to_z-of_z}
 use Rattle.tz_plain.proofs.local.is_up_to.Goals as goal
 
 pub returns : goal.returns

@@ -1,4 +1,4 @@
-use Rattle.std.proofs.Common.{◌≡◌, ◌+◌, ◌-◌, ◌++◌, ◌∷◌, [], List, ℤ, Vec, Global, length, Some, subst, sym, ap, ◌∙◌, arith, rules, FitsSigned}
+use Rattle.std.proofs.Common.{◌+◌, ◌-◌, ℤ, Vec, Global, length, subst, sym, ap, ◌∙◌, arith, rules, FitsSigned}
 use Rattle.std.specs.Int.{w64}
 use Rattle.std.proofs.lemmas.Int.{to_z-of_z}
 use Rattle.tz_plain.proofs.Pieces.{CutsLeft, cut_told, cut_passed, cuts_told}

@@ -1,6 +1,6 @@
-use Rattle.std.proofs.Common.{arith, rules, FitsSigned, ◌≡◌, List}
+use Rattle.std.proofs.Common.{rules, FitsSigned, List}
 use Rattle.std.specs.Int.{w64}
-use Rattle.std.proofs.lemmas.Int.{ints, to_z-of_z}
+use Rattle.std.proofs.lemmas.Int.{to_z-of_z}
 use Rattle.tz_types.specs.Amount.{IsShift}
 use Rattle.tz_specs.specs.Occurrence.{Occurrence}
 use Rattle.tz_plain.proofs.States.{instant_told, told_more, told_all}
