@@ -1,0 +1,5 @@
+pub mod InOrder
+pub mod States
+pub mod Pieces
+pub mod Numbers
+pub mod Locals

@@ -1,0 +1,4 @@
+pub mod Listing
+pub mod Written
+pub mod Kept
+pub mod Follows
