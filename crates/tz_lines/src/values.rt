@@ -1,5 +1,5 @@
-ghost use Rattle.std.specs.Prelude.{◌≡◌, ◌==◌, ◌||◌, not, IsTrue, IfSome, option_map, is_some, codes};
-ghost use Rattle.std.specs.List.{list_any};
+ghost use Rattle.std.specs.Prelude.{◌≡◌, ◌==◌, ◌||◌, not, IsTrue, IfSome, option_map, is_some, codes, nat_eq};
+ghost use Rattle.std.specs.List.{list_any, ends_with};
 ghost use Rattle.tz_types.specs.Year.{IsRuleYear};
 ghost use Rattle.tz_types.specs.Amount.{IsShift, IsTimeOfDay};
 ghost use Rattle.tz_types.specs.Calendar.{has_day};
@@ -171,15 +171,20 @@ pub fn until_day(year: i32, month: Month, field: &[u8]) -> Option<On>
     }
 }
 
-/// A time of day that ends with `u`, in seconds of universal time.
+/// Whether the field ends with a small `u`.
+fn ends_with_u(field: &[u8]) -> bool
+    ensures { result ≡ ends_with nat_eq field.now (codes "u") }
+{
+    field.ends_with(b"u")
+}
+
+/// A time of day that ends with a small `u`, in seconds of universal time.
 pub fn universal_time(field: &[u8]) -> Option<i64>
     ensures value { result ≡ universal_time_of field.now }
     ensures bound { IfSome result IsTimeOfDay }
 {
-    let time = whole_amount(field, b"u")?;
-    if time.suffix == b'u' {
-        Some(time.seconds)
-    } else {
-        None
+    if !ends_with_u(field) {
+        return None;
     }
+    Some(whole_amount(field, b"u")?.seconds)
 }

@@ -26,6 +26,9 @@ const TEXT_D: &str = "Zone\tFar/East 24 - DAY";
 /// A line whose end comes at its start.
 const TEXT_U: &str = "Zone A 0 - X 2000 Jan 1 0u\n0 - Y 2000 Jan 1 0u\n0 - Z\n";
 
+/// An UNTIL whose time ends with a capital letter, which is no suffix.
+const TEXT_C: &str = "Zone A 0 - X 2000 Jan 1 0U\n0 - Z\n";
+
 /// A zone whose last line wants another.
 const TEXT_W: &str = "Zone A 0 - X 2000 Jan 1 0u\n";
 
@@ -35,6 +38,7 @@ fn files_of(alloc: Global) -> Result<MemoryFiles, AllocError> {
         ("N", TEXT_N),
         ("A", TEXT_A),
         ("D", TEXT_D),
+        ("C", TEXT_C),
         ("U", TEXT_U),
         ("W", TEXT_W),
         ("E", ""),
@@ -116,6 +120,7 @@ fn answers_each_row(rt: HostRuntime) -> Result<(), Fail> {
             Status::Ok,
             "-377705116800 253402300800 86400 0 DAY\n",
         ),
+        ("info C A 0", 64, Status::Text, ""),
         ("info U A 0", 64, Status::Text, ""),
         ("info W A 0", 64, Status::Text, ""),
         ("info Missing America/New_York 0", 64, Status::Read, ""),

@@ -1,7 +1,7 @@
 -- What a text says, line by line, after zic(8), "Zone lines": zone lines, and the lines that continue a zone.
 -- So far a text is built that has one zone at most, no quotes and no comments, plain formats and no rules.
 use Rattle.std.specs.Prelude.{ℕ, ◌+◌, ◌==◌, nat_le, nat_eq, Bool, true, false, not, ◌&&◌, ◌||◌, if◌then◌else◌, List, [], ◌∷◌, length, map, codes, ℤ, unsigned_abs, int_lt, ◌≡◌, IsTrue, Option, Some, None, option_map, is_some}
-use Rattle.std.specs.List.{list_all, list_any}
+use Rattle.std.specs.List.{list_all, list_any, ends_with}
 use Rattle.std.specs.Cmp.Lexicographic.{pointwise}
 use Rattle.tz_types.specs.Text.{is_printable}
 use Rattle.tz_types.specs.Calendar.{has_day}
@@ -108,7 +108,8 @@ until_day_of year month field = on_of field >>= λ on. only_if (is_plain_day on 
 
 -- a time of day in universal time, which ends with `u`
 abbrev pub universal_time_of : List ℕ → Option ℤ
-universal_time_of field = whole_amount_of (codes "u") field >>= λ amount. only_if (amount.1 == 0x75) amount.0
+universal_time_of field =
+    only_if (ends_with nat_eq field (codes "u")) field >>= λ time. option_map (λ amount. amount.0) (whole_amount_of (codes "u") time)
 
 -- no UNTIL, or all four fields of one
 unfoldable pub until_of : List (List ℕ) → Option (Option WrittenUntil)

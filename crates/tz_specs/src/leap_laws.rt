@@ -1,7 +1,7 @@
-ghost use Rattle.std.specs.Prelude.{◌≡◌, ◌↔◌, List, All, ℤ, ◌<ℤ◌, ◌≤ℤ◌, int_lt, IsTrue};
+ghost use Rattle.std.specs.Prelude.{◌≡◌, ◌↔◌, List, All, ℤ, ◌+ℤ◌, ◌-ℤ◌, pos, ◌<ℤ◌, ◌≤ℤ◌, int_lt, IsTrue};
 ghost use Rattle.tz_types.specs.Order.{ascends};
 ghost use Rattle.tz_specs.specs.Expansion.{IsInstant, first_instant, end_of_time};
-ghost use Rattle.tz_specs.specs.LeapSecond.{utc_count, is_inserted, IsSystemTime, IsUtcCount};
+ghost use Rattle.tz_specs.specs.LeapSecond.{utc_count, tai_count, gps_count, is_inserted, IsSystemTime, IsUtcCount};
 
 /// Of two system times the later one has the greater UTC count.
 pub fn utc_counts_rise()
@@ -29,4 +29,10 @@ pub fn utc_counts_have_one_system_time()
 pub fn clocks_keep_their_ranges()
     ensures utc { (dates : List ℤ) (t : ℤ) → IsInstant t → IsUtcCount dates (utc_count dates t) }
     ensures system { (dates : List ℤ) (u t : ℤ) → IsTrue (ascends int_lt dates) → All (λ date. (first_instant <ℤ date) × (date ≤ℤ end_of_time)) dates → IsUtcCount dates u → IsSystemTime dates u t → IsInstant t }
+{}
+
+/// TAI and GPS keep their distance from UTC.
+pub fn tai_and_gps_keep_their_distance()
+    ensures tai { (u : ℤ) → tai_count u ≡ u +ℤ pos 378_691_210 }
+    ensures gps { (u : ℤ) → gps_count u ≡ u -ℤ pos 315_964_809 }
 {}

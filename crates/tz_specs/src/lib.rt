@@ -30,8 +30,8 @@ pub use effect_laws::{
 pub use expansion_laws::{line_without_rules_is_one_range, time_runs_from_midnight_to_midnight};
 pub use field::{at_most_one_list, no_list_where_open, one_reading};
 pub use leap_laws::{
-    clocks_keep_their_ranges, only_inserted_seconds_are_left_out, utc_count_gives_its_system_time,
-    utc_counts_have_one_system_time, utc_counts_rise,
+    clocks_keep_their_ranges, only_inserted_seconds_are_left_out, tai_and_gps_keep_their_distance,
+    utc_count_gives_its_system_time, utc_counts_have_one_system_time, utc_counts_rise,
 };
 pub use local_laws::{local_times_are_told, local_times_mean_what_they_say};
 pub use occurrence_laws::{
