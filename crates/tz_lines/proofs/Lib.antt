@@ -4,3 +4,4 @@ pub mod Outcomes
 pub mod Adding
 pub mod Rising
 pub mod Whole
+pub mod PlainDays

@@ -9,6 +9,8 @@ mod building;
 mod cutting;
 mod entry;
 mod error;
+mod leap_cause;
+mod leap_values;
 mod locating;
 mod reading;
 mod values;
