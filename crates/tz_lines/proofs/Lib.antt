@@ -5,3 +5,6 @@ pub mod Adding
 pub mod Rising
 pub mod Whole
 pub mod PlainDays
+pub mod LeapLines
+pub mod LeapDates
+pub mod LeapOutcomes

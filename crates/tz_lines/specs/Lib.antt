@@ -6,3 +6,5 @@ pub mod Refusal
 pub mod Locate
 pub mod LeapText
 pub mod PlainDay
+pub mod LeapOutcome
+pub mod LeapRefusal

@@ -10,6 +10,9 @@ mod cutting;
 mod entry;
 mod error;
 mod leap_cause;
+mod leap_gathered;
+mod leap_line;
+mod leap_reading;
 mod leap_values;
 mod locating;
 mod reading;
@@ -17,4 +20,5 @@ mod values;
 
 pub use building::read_zones;
 pub use error::ReadError;
+pub use leap_reading::read_leaps;
 pub use locating::locate;
