@@ -12,7 +12,10 @@ use Rattle.tz_lines.specs.declared.leap_cause.LeapCause.TheVariants as causes
 use Rattle.tz_lines.specs.LeapText.{LeapRecord, before_rest, records_from, is_among, first_repeat, unless_repeat, dates_of, fault_at, line_says, leap_dates_of, RefusesLeaps, ReadsLeaps}
 use Rattle.tz_types.specs.declared.leap_dates.Leaps.{Leaps}
 use Rattle.tz_specs.specs.Line.{lines_of}
-use Rattle.tz_lines.specs.LeapOutcome.{place_among, with_date, repeat_after, repeat_with, leap_outcome}
+use Rattle.tz_lines.specs.LeapOutcome.{place_among, with_date, repeat_after, repeat_with, leap_outcome, Comes}
+use Rattle.tz_lines.specs.LeapRefusal.{MeansRefusal}
+use Rattle.tz_lines.specs.declared.error.ReadError.{ReadError}
+use Rattle.tz_lines.specs.declared.error.ReadError.TheVariants as errors
 
 -- the outcome of a line and those after it, by what the line says
 abbrev outcome_by : List ℤ → Option ℕ → ℕ → ℕ → List (List ℕ) → Result (Option ℤ) LeapCause → Result (List ℤ) Fault
@@ -41,6 +44,16 @@ outcome_blank dates repeat count number line lines e =
 pub outcome_dated : (dates : List ℤ) (repeat : Option ℕ) (count number : ℕ) (line : List ℕ) (lines : List (List ℕ)) (date : ℤ) → line_says number count line ≡ Ok (Some date) → leap_outcome dates repeat count number (line ∷ lines) ≡ leap_outcome (with_date date dates) (repeat_with repeat number date dates) (count + 1) (number + 1) lines
 outcome_dated dates repeat count number line lines date e =
     outcome_step dates repeat count number line lines ∙ ap (outcome_by dates repeat count number lines) e
+
+-- the same where what was gathered is the record's
+pub outcome_added : (dates new_dates : List ℤ) (repeat new_repeat : Option ℕ) (count new_count number : ℕ) (line : List ℕ) (date : ℤ) → line_says number count line ≡ Ok (Some date) → new_dates ≡ with_date date dates → new_repeat ≡ repeat_with repeat number date dates → new_count ≡ count + 1 → (lines : List (List ℕ)) → leap_outcome dates repeat count number (line ∷ lines) ≡ leap_outcome new_dates new_repeat new_count (number + 1) lines
+outcome_added dates new_dates repeat new_repeat count new_count number line date e dates_are repeat_is count_is lines =
+    rw (dates_are, repeat_is, count_is) (outcome_dated dates repeat count number line lines date e)
+
+-- a fault comes where a line has a cause
+pub cause_comes : (error : ReadError) (dates : List ℤ) (repeat : Option ℕ) (count number : ℕ) (line : List ℕ) (cause : LeapCause) → error ≡ errors.Fault (fault_at number cause) → line_says number count line ≡ Err cause → (lines : List (List ℕ)) → Comes error (leap_outcome dates repeat count number (line ∷ lines))
+cause_comes error dates repeat count number line cause is e lines =
+    rw is (outcome_refused dates repeat count number line lines cause e)
 
 pub outcome_end : (dates : List ℤ) (repeat : Option ℕ) (count number : ℕ) → leap_outcome dates repeat count number [] ≡ unless_repeat repeat dates
 unfolding leap_outcome
@@ -192,3 +205,19 @@ unfolding Agrees
 text_read text leaps e =
     let found = rw e at (text_agrees text) in
     record { written = found.0; read = found.1; same = found.2 }
+
+-- a text refused by one of its lines
+pub line_refused : (text : List ℕ) (error : ReadError) → Comes error (leap_outcome [] None 0 1 (lines_of text)) → MeansRefusal error text
+line_refused text errors.NoMemory h = tt
+line_refused text (errors.Fault fault) h = text_refused text fault h
+
+-- a text refused as a whole
+pub repeat_refused : (text : List ℕ) (error : ReadError) (repeat : Option ℕ) (line : ℕ) (dates : List ℤ) → error ≡ errors.Fault (fault_at line causes.LeapRepeat) → repeat ≡ Some line → leap_outcome [] None 0 1 (lines_of text) ≡ unless_repeat repeat dates → MeansRefusal error text
+repeat_refused text error repeat line dates is some e =
+    rw is (text_refused text (fault_at line causes.LeapRepeat) (rw some at e))
+
+-- a text that isn't refused
+pub all_read : (text : List ℕ) (repeat : Option ℕ) (dates : List ℤ) (leaps : Leaps) → repeat ≡ None → leaps.dates ≡ dates → leap_outcome [] None 0 1 (lines_of text) ≡ unless_repeat repeat dates → ReadsLeaps text leaps
+all_read text repeat dates leaps none same e =
+    let told : leap_outcome [] None 0 1 (lines_of text) ≡ Ok dates = rw none at e in
+    text_read text leaps (told ∙ ap read_dates (sym same))

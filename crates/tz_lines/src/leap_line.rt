@@ -1,4 +1,5 @@
-ghost use Rattle.std.specs.Prelude.{◌≡◌, ℕ, ◌<◌, [], List, is_some};
+ghost use Rattle.std.specs.Prelude.{◌≡◌, ℕ, ◌<◌, [], List, is_some, IsSome, IsNone, IsOk, IfOk};
+ghost use Rattle.tz_types.specs.Limit.{most_leaps};
 ghost use Rattle.tz_specs.specs.Word.{named_entry};
 ghost use Rattle.tz_text.specs.Kept.{kept_of};
 ghost use Rattle.tz_lines.specs.LeapText.{is_exactly, leap_keyword, value_causes, field_causes, leap_date, line_says};
@@ -72,7 +73,8 @@ fn is_too_many(number: u32, earlier: u32) -> bool
 
 /// The date of a record, unless that is one too many.
 fn unless_too_many(date: i64, number: u32, earlier: u32) -> Result<Option<i64>, LeapCause>
-    ensures { result ≡ unless_too_many (is_too_many number earlier) date }
+    ensures value { result ≡ unless_too_many (is_too_many number earlier) date }
+    ensures few { IsOk result → earlier < most_leaps }
 {
     if is_too_many(number, earlier) {
         return Err(LeapCause::Limit);
@@ -83,7 +85,8 @@ fn unless_too_many(date: i64, number: u32, earlier: u32) -> Result<Option<i64>, 
 /// What a line without fields says.
 #[tactic(auto, using(crate::proofs::LeapLines::blank_late, crate::proofs::LeapLines::blank_said))]
 fn blank_line(number: u32) -> Result<Option<i64>, LeapCause>
-    ensures { (earlier : ℕ) → result ≡ fields_say number earlier [] }
+    ensures value { (earlier : ℕ) → result ≡ fields_say number earlier [] }
+    ensures none { IfOk result IsNone }
 {
     if number > 100_000 {
         return Err(LeapCause::Limit);
@@ -93,7 +96,8 @@ fn blank_line(number: u32) -> Result<Option<i64>, LeapCause>
 
 /// What the fields of a line say.
 fn date_of_fields(fields: &Fields<'_>, number: u32, earlier: u32) -> Result<Option<i64>, LeapCause>
-    ensures { (all : List (List ℕ)) → kept_of all ≡ fields.now → result ≡ fields_say number earlier all }
+    ensures value { (all : List (List ℕ)) → kept_of all ≡ fields.now → result ≡ fields_say number earlier all }
+    ensures few { IfOk result (λ date. IsSome date → earlier < most_leaps) }
 {
     if fields.count() == 0 {
         return blank_line(number);
@@ -112,7 +116,8 @@ pub fn read_line(
     number: u32,
     earlier: u32,
 ) -> Result<Option<i64>, LeapCause>
-    ensures { result ≡ line_says number earlier line.now }
+    ensures value { result ≡ line_says number earlier line.now }
+    ensures few { IfOk result (λ date. IsSome date → earlier < most_leaps) }
 {
     if line.len() + 1 > 2_048 {
         return Err(LeapCause::LongLine);

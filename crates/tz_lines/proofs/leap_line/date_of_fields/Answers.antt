@@ -3,16 +3,16 @@ use Rattle.tz_lines.specs.LeapOutcome.{fields_say}
 use Rattle.tz_lines.proofs.LeapLines.{none_all, refused_fields, dated_fields}
 use Rattle.tz_lines.proofs.leap_line.date_of_fields.Goals as goal
 
-pub returns-then-count-eq0 : goal.returns-then-count-eq0
-returns-then-count-eq0 c =
-    λ all same. c.blank_line.ensures c.args.earlier ∙ ap (fields_say c.args.number c.args.earlier) (sym (none_all all c.args.fields.now same (omega arith)))
+pub returns-then-count-eq0-clause-value : goal.returns-then-count-eq0-clause-value
+returns-then-count-eq0-clause-value c =
+    λ all same. c.blank_line.ensures.value c.args.earlier ∙ ap (fields_say c.args.number c.args.earlier) (sym (none_all all c.args.fields.now same (omega arith)))
 
-pub returns-in-Ok : goal.returns-in-Ok
-returns-in-Ok c =
+pub returns-in-Ok-clause-value : goal.returns-in-Ok-clause-value
+returns-in-Ok-clause-value c =
     let fits : FitsSigned w64 c.in-Ok.date = search rules in
-    let value = simp to_z-of_z at c.unless_too_many.ensures in
+    let value = simp to_z-of_z at c.unless_too_many.ensures.value in
     λ all same. value ∙ dated_fields all c.args.fields.now c.args.number c.args.earlier c.in-Ok.date same (omega arith) (c.in-Ok.ensures all same)
 
-pub returns-in-Err : goal.returns-in-Err
-returns-in-Err c =
+pub returns-in-Err-clause-value : goal.returns-in-Err-clause-value
+returns-in-Err-clause-value c =
     λ all same. refused_fields all c.args.number c.args.earlier c.in-Err.cause (c.in-Err.ensures all same)
