@@ -1,5 +1,5 @@
 -- Dates that ascend, with one more.
-use Rattle.std.proofs.Common.{◌≡◌, ℕ, zero, suc, ◌+◌, ◌<◌, ◌≤◌, Bool, true, false, not, nat_lt, ◌&&◌, ◌||◌, IsTrue, int_lt, List, [], ◌∷◌, ◌++◌, length, ℤ, Option, Some, None, cond, if◌then◌else◌, refl, sym, ap, ◌∙◌, ⊎_elim, arith}
+use Rattle.std.proofs.Common.{◌≡◌, ℕ, suc, ◌+◌, ◌≤◌, Bool, true, false, not, nat_lt, ◌&&◌, ◌||◌, IsTrue, int_lt, List, [], ◌∷◌, length, ℤ, Some, None, cond, refl, ⊎_elim, arith}
 use Rattle.std.specs.Ordering.{int_eq}
 use Rattle.std.specs.List.{insert, position, position_or_len}
 use Rattle.std.proofs.lemmas.Int.{ints}
@@ -8,7 +8,7 @@ use Rattle.std.proofs.lemmas.Bool.Decides.{nat_tests}
 use Rattle.std.proofs.lemmas.List.Sums.{prefix_len-le-length}
 use Rattle.tz_types.specs.Order.{ascends, ascends_after}
 use Rattle.tz_lines.specs.LeapText.{is_among}
-use Rattle.tz_lines.specs.LeapOutcome.{place_among, with_date}
+use Rattle.tz_lines.specs.LeapOutcome.{place_among}
 
 -- the first place that passes, or else the length
 pub placed : {A : Type 0} (p : A → Bool) (xs : List A) (place : ℕ) → position p xs ≡ Some place → place ≡ position_or_len p xs

@@ -1,11 +1,9 @@
 -- What a line of a leap text says, by its fields.
-use Rattle.std.proofs.Common.{◌≡◌, ◌≢◌, ℕ, zero, suc, ◌+◌, ◌<◌, ◌≤◌, Bool, true, false, not, nat_lt, nat_le, nat_eq, ◌&&◌, ◌||◌, ◌==◌, List, [], ◌∷◌, ◌++◌, length, take, map, ℤ, Option, Some, None, is_some, option_map, Result, Ok, Err, if◌then◌else◌, refl, sym, ap, ◌∙◌, ⊎_elim, arith}
+use Rattle.std.proofs.Common.{◌≡◌, ◌≢◌, ℕ, ◌+◌, ◌<◌, ◌≤◌, Bool, true, false, nat_lt, nat_eq, ◌==◌, List, [], ◌∷◌, ◌++◌, length, take, ℤ, Option, Some, None, is_some, option_map, Result, Ok, Err, if◌then◌else◌, refl, sym, ap, ◌∙◌, arith}
 use Rattle.std.specs.Option.{is_none}
 use Rattle.std.specs.List.{list_any}
-use Rattle.std.proofs.lemmas.Bool.{cases_Bool}
 use Rattle.std.proofs.lemmas.Bool.Decides.{nat_tests}
 use Rattle.std.proofs.lemmas.List.{take_all}
-use Rattle.tz_types.specs.Limit.{most_leaps}
 use Rattle.tz_specs.specs.Line.{line_length}
 use Rattle.tz_specs.specs.Field.{fields_of}
 use Rattle.tz_specs.specs.Number.{number_of, signed_number_of}
@@ -13,7 +11,7 @@ use Rattle.tz_specs.specs.Word.{named_entry}
 use Rattle.tz_text.specs.Kept.{Kept, kept_of, most_kept}
 use Rattle.tz_lines.specs.declared.leap_cause.LeapCause.{LeapCause}
 use Rattle.tz_lines.specs.declared.leap_cause.LeapCause.TheVariants as causes
-use Rattle.tz_lines.specs.LeapText.{field_at, leap_keyword, leap_date, least_cause, value_causes, field_causes, fields_or_none, is_record, exceeds_limit, leap_causes, unless_cause, line_says}
+use Rattle.tz_lines.specs.LeapText.{field_at, leap_keyword, leap_date, least_cause, value_causes, field_causes, fields_or_none, exceeds_limit, unless_cause, line_says}
 use Rattle.tz_lines.specs.LeapOutcome.{Says, fields_say, is_too_many, unless_too_many}
 
 step_before : (holds : Bool) (first cause : LeapCause) (a b : Option LeapCause) → (a ≡ Some cause → b ≡ Some cause) → (if holds then Some first else a) ≡ Some cause → (if holds then Some first else b) ≡ Some cause

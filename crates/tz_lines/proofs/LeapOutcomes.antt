@@ -1,15 +1,14 @@
 -- How the outcome of a leap text follows, line by line, and that it is what the text says.
-use Rattle.std.proofs.Common.{◌≡◌, ℕ, zero, suc, ◌+◌, ◌<◌, ◌≤◌, Bool, true, false, List, [], ◌∷◌, ◌++◌, length, map, ℤ, Option, Some, None, Result, Ok, Err, if◌then◌else◌, refl, sym, ap, ◌∙◌, subst, ⊎_elim, append-nil, arith}
+use Rattle.std.proofs.Common.{◌≡◌, ℕ, ◌+◌, Bool, true, false, List, [], ◌∷◌, ◌++◌, map, ℤ, Option, Some, None, Result, Ok, Err, if◌then◌else◌, refl, sym, ap, ◌∙◌, ⊎_elim, append-nil}
 use Rattle.std.specs.List.{insert}
 use Rattle.std.specs.List.Sorted.{IsPermutation}
 use Rattle.std.proofs.lemmas.Bool.{cases_Bool}
-use Rattle.std.proofs.lemmas.List.Sorted.{IsPermutation-refl, IsPermutation-insert, IsPermutation-trans, IsPermutation-cons, IsPermutation-sym, IsPermutation-middle, list_any-IsPermutation}
+use Rattle.std.proofs.lemmas.List.Sorted.{IsPermutation-refl, IsPermutation-insert, IsPermutation-trans, IsPermutation-cons, IsPermutation-middle, list_any-IsPermutation}
 use Rattle.std.specs.Ordering.{int_eq}
-use Rattle.tz_types.specs.Limit.{most_leaps}
 use Rattle.tz_types.specs.declared.fault.Fault.{Fault}
 use Rattle.tz_lines.specs.declared.leap_cause.LeapCause.{LeapCause}
 use Rattle.tz_lines.specs.declared.leap_cause.LeapCause.TheVariants as causes
-use Rattle.tz_lines.specs.LeapText.{LeapRecord, before_rest, records_from, is_among, first_repeat, unless_repeat, dates_of, fault_at, line_says, leap_dates_of, RefusesLeaps, ReadsLeaps}
+use Rattle.tz_lines.specs.LeapText.{LeapRecord, before_rest, leap_records_from, is_among, first_repeat, unless_repeat, dates_of, fault_at, line_says, leap_dates_of, RefusesLeaps, ReadsLeaps}
 use Rattle.tz_types.specs.declared.leap_dates.Leaps.{Leaps}
 use Rattle.tz_specs.specs.Line.{lines_of}
 use Rattle.tz_lines.specs.LeapOutcome.{place_among, with_date, repeat_after, repeat_with, leap_outcome, Comes}
@@ -61,18 +60,18 @@ outcome_end dates repeat count number = refl
 
 -- the records of a line and those after it, by what the line says
 abbrev step_of : ℕ → ℕ → List (List ℕ) → Result (Option ℤ) LeapCause → Result (List LeapRecord) Fault
-step_of number count lines (Ok None) = records_from (number + 1) count lines
+step_of number count lines (Ok None) = leap_records_from (number + 1) count lines
 step_of number count lines (Ok (Some date)) =
-    before_rest (record { line = number; date = date }) (records_from (number + 1) (count + 1) lines)
+    before_rest (record { line = number; date = date }) (leap_records_from (number + 1) (count + 1) lines)
 step_of number count lines (Err cause) = Err (fault_at number cause)
 
-by_said : (number count : ℕ) (lines : List (List ℕ)) (said : Result (Option ℤ) LeapCause) → elim said [ Ok told ↦ elim told [ None ↦ records_from (number + 1) count lines | Some date ↦ before_rest (record { line = number; date = date }) (records_from (number + 1) (count + 1) lines) ] | Err cause ↦ Err (fault_at number cause) ] ≡ step_of number count lines said
+by_said : (number count : ℕ) (lines : List (List ℕ)) (said : Result (Option ℤ) LeapCause) → elim said [ Ok told ↦ elim told [ None ↦ leap_records_from (number + 1) count lines | Some date ↦ before_rest (record { line = number; date = date }) (leap_records_from (number + 1) (count + 1) lines) ] | Err cause ↦ Err (fault_at number cause) ] ≡ step_of number count lines said
 by_said number count lines (Ok None) = refl
 by_said number count lines (Ok (Some date)) = refl
 by_said number count lines (Err cause) = refl
 
-records_step : (number count : ℕ) (line : List ℕ) (lines : List (List ℕ)) → records_from number count (line ∷ lines) ≡ step_of number count lines (line_says number count line)
-unfolding records_from
+records_step : (number count : ℕ) (line : List ℕ) (lines : List (List ℕ)) → leap_records_from number count (line ∷ lines) ≡ step_of number count lines (line_says number count line)
+unfolding leap_records_from
 records_step number count line lines = by_said number count lines (line_says number count line)
 
 -- with a repeat, the text is refused
@@ -91,14 +90,14 @@ still_first first line date dates = by_test (is_among date dates)
     by_test true = refl
     by_test false = refl
 
-repeated_by : (dates : List ℤ) (first count number : ℕ) (lines : List (List ℕ)) (said : Result (Option ℤ) LeapCause) → leap_outcome dates (Some first) count (number + 1) lines ≡ refused_at first (records_from (number + 1) count lines) → ((date : ℤ) → leap_outcome (with_date date dates) (Some first) (count + 1) (number + 1) lines ≡ refused_at first (records_from (number + 1) (count + 1) lines)) → outcome_by dates (Some first) count number lines said ≡ refused_at first (step_of number count lines said)
+repeated_by : (dates : List ℤ) (first count number : ℕ) (lines : List (List ℕ)) (said : Result (Option ℤ) LeapCause) → leap_outcome dates (Some first) count (number + 1) lines ≡ refused_at first (leap_records_from (number + 1) count lines) → ((date : ℤ) → leap_outcome (with_date date dates) (Some first) (count + 1) (number + 1) lines ≡ refused_at first (leap_records_from (number + 1) (count + 1) lines)) → outcome_by dates (Some first) count number lines said ≡ refused_at first (step_of number count lines said)
 repeated_by dates first count number lines (Ok None) blank dated = blank
 repeated_by dates first count number lines (Ok (Some date)) blank dated =
-    ap (λ repeat. leap_outcome (with_date date dates) repeat (count + 1) (number + 1) lines) (still_first first number date dates) ∙ dated date ∙ sym (refused_before first (record { line = number; date = date }) (records_from (number + 1) (count + 1) lines))
+    ap (λ repeat. leap_outcome (with_date date dates) repeat (count + 1) (number + 1) lines) (still_first first number date dates) ∙ dated date ∙ sym (refused_before first (record { line = number; date = date }) (leap_records_from (number + 1) (count + 1) lines))
 repeated_by dates first count number lines (Err cause) blank dated = refl
 
-outcome_repeated : (dates : List ℤ) (first count number : ℕ) (lines : List (List ℕ)) → leap_outcome dates (Some first) count number lines ≡ refused_at first (records_from number count lines)
-unfolding leap_outcome records_from
+outcome_repeated : (dates : List ℤ) (first count number : ℕ) (lines : List (List ℕ)) → leap_outcome dates (Some first) count number lines ≡ refused_at first (leap_records_from number count lines)
+unfolding leap_outcome leap_records_from
 outcome_repeated dates first count number [] = refl
 outcome_repeated dates first count number (line ∷ lines) =
     outcome_step dates (Some first) count number line lines ∙ repeated_by dates first count number lines (line_says number count line) (outcome_repeated dates first count (number + 1) lines) (λ date. outcome_repeated (with_date date dates) first (count + 1) (number + 1) lines) ∙ sym (ap (refused_at first) (records_step number count line lines))
@@ -156,36 +155,36 @@ new_date seen number date (Err fault) (Ok records) e agrees =
     new_fault seen number date (map date_of records) fault (first_repeat (date ∷ seen) records) e agrees
 new_date seen number date (Err fault) (Err other) e agrees = agrees
 
-agrees_end : (seen dates : List ℤ) (count number : ℕ) → IsPermutation seen dates → Agrees seen (leap_outcome dates None count number []) (dates_of seen (records_from number count []))
-unfolding Agrees leap_outcome records_from
+agrees_end : (seen dates : List ℤ) (count number : ℕ) → IsPermutation seen dates → Agrees seen (leap_outcome dates None count number []) (dates_of seen (leap_records_from number count []))
+unfolding Agrees leap_outcome leap_records_from
 agrees_end seen dates count number same = ([], refl, rw append-nil same)
 
 agrees_fault : (seen : List ℤ) (fault : Fault) → Agrees seen (Err fault) (Err fault)
 unfolding Agrees
 agrees_fault seen fault = refl
 
-agrees_old : (seen dates : List ℤ) (count number : ℕ) (lines : List (List ℕ)) (date : ℤ) → IsPermutation seen dates → is_among date dates ≡ true → Agrees seen (leap_outcome (with_date date dates) (repeat_with None number date dates) (count + 1) (number + 1) lines) (dates_of seen (before_rest (record { line = number; date = date }) (records_from (number + 1) (count + 1) lines)))
+agrees_old : (seen dates : List ℤ) (count number : ℕ) (lines : List (List ℕ)) (date : ℤ) → IsPermutation seen dates → is_among date dates ≡ true → Agrees seen (leap_outcome (with_date date dates) (repeat_with None number date dates) (count + 1) (number + 1) lines) (dates_of seen (before_rest (record { line = number; date = date }) (leap_records_from (number + 1) (count + 1) lines)))
 agrees_old seen dates count number lines date same e =
     let among : is_among date seen ≡ true = list_any-IsPermutation (λ other. int_eq other date) seen dates same ∙ e in
-    rw (repeat_old number date dates e) (rw (outcome_repeated (with_date date dates) number (count + 1) (number + 1) lines) (agrees_refused seen number (records_from (number + 1) (count + 1) lines) (dates_of seen (before_rest (record { line = number; date = date }) (records_from (number + 1) (count + 1) lines))) (old_date seen dates number date (records_from (number + 1) (count + 1) lines) among)))
+    rw (repeat_old number date dates e) (rw (outcome_repeated (with_date date dates) number (count + 1) (number + 1) lines) (agrees_refused seen number (leap_records_from (number + 1) (count + 1) lines) (dates_of seen (before_rest (record { line = number; date = date }) (leap_records_from (number + 1) (count + 1) lines))) (old_date seen dates number date (leap_records_from (number + 1) (count + 1) lines) among)))
 
 permutes_with : (seen dates : List ℤ) (date : ℤ) → IsPermutation seen dates → is_among date dates ≡ false → IsPermutation (date ∷ seen) (with_date date dates)
 permutes_with seen dates date same e =
     rw (with_new date dates e) (IsPermutation-trans (date ∷ seen) (date ∷ dates) (insert dates (place_among date dates) date) (IsPermutation-cons date seen dates same) (IsPermutation-insert dates (place_among date dates) date))
 
-agrees_new : (seen dates : List ℤ) (count number : ℕ) (lines : List (List ℕ)) (date : ℤ) → IsPermutation seen dates → is_among date dates ≡ false → (IsPermutation (date ∷ seen) (with_date date dates) → Agrees (date ∷ seen) (leap_outcome (with_date date dates) None (count + 1) (number + 1) lines) (dates_of (date ∷ seen) (records_from (number + 1) (count + 1) lines))) → Agrees seen (leap_outcome (with_date date dates) (repeat_with None number date dates) (count + 1) (number + 1) lines) (dates_of seen (before_rest (record { line = number; date = date }) (records_from (number + 1) (count + 1) lines)))
+agrees_new : (seen dates : List ℤ) (count number : ℕ) (lines : List (List ℕ)) (date : ℤ) → IsPermutation seen dates → is_among date dates ≡ false → (IsPermutation (date ∷ seen) (with_date date dates) → Agrees (date ∷ seen) (leap_outcome (with_date date dates) None (count + 1) (number + 1) lines) (dates_of (date ∷ seen) (leap_records_from (number + 1) (count + 1) lines))) → Agrees seen (leap_outcome (with_date date dates) (repeat_with None number date dates) (count + 1) (number + 1) lines) (dates_of seen (before_rest (record { line = number; date = date }) (leap_records_from (number + 1) (count + 1) lines)))
 agrees_new seen dates count number lines date same e next =
     let new : is_among date seen ≡ false = list_any-IsPermutation (λ other. int_eq other date) seen dates same ∙ e in
-    rw (repeat_new number date dates e) (new_date seen number date (leap_outcome (with_date date dates) None (count + 1) (number + 1) lines) (records_from (number + 1) (count + 1) lines) new (next (permutes_with seen dates date same e)))
+    rw (repeat_new number date dates e) (new_date seen number date (leap_outcome (with_date date dates) None (count + 1) (number + 1) lines) (leap_records_from (number + 1) (count + 1) lines) new (next (permutes_with seen dates date same e)))
 
-agrees_by : (seen dates : List ℤ) (count number : ℕ) (lines : List (List ℕ)) (said : Result (Option ℤ) LeapCause) → IsPermutation seen dates → Agrees seen (leap_outcome dates None count (number + 1) lines) (dates_of seen (records_from (number + 1) count lines)) → ((date : ℤ) → IsPermutation (date ∷ seen) (with_date date dates) → Agrees (date ∷ seen) (leap_outcome (with_date date dates) None (count + 1) (number + 1) lines) (dates_of (date ∷ seen) (records_from (number + 1) (count + 1) lines))) → Agrees seen (outcome_by dates None count number lines said) (dates_of seen (step_of number count lines said))
+agrees_by : (seen dates : List ℤ) (count number : ℕ) (lines : List (List ℕ)) (said : Result (Option ℤ) LeapCause) → IsPermutation seen dates → Agrees seen (leap_outcome dates None count (number + 1) lines) (dates_of seen (leap_records_from (number + 1) count lines)) → ((date : ℤ) → IsPermutation (date ∷ seen) (with_date date dates) → Agrees (date ∷ seen) (leap_outcome (with_date date dates) None (count + 1) (number + 1) lines) (dates_of (date ∷ seen) (leap_records_from (number + 1) (count + 1) lines))) → Agrees seen (outcome_by dates None count number lines said) (dates_of seen (step_of number count lines said))
 agrees_by seen dates count number lines (Ok None) same blank dated = blank
 agrees_by seen dates count number lines (Ok (Some date)) same blank dated =
     ⊎_elim (λ (e : is_among date dates ≡ true). agrees_old seen dates count number lines date same e) (λ (e : is_among date dates ≡ false). agrees_new seen dates count number lines date same e (dated date)) (cases_Bool (is_among date dates))
 agrees_by seen dates count number lines (Err cause) same blank dated = agrees_fault seen (fault_at number cause)
 
 -- the outcome has the dates that the records have
-agrees : (seen dates : List ℤ) (count number : ℕ) (lines : List (List ℕ)) → IsPermutation seen dates → Agrees seen (leap_outcome dates None count number lines) (dates_of seen (records_from number count lines))
+agrees : (seen dates : List ℤ) (count number : ℕ) (lines : List (List ℕ)) → IsPermutation seen dates → Agrees seen (leap_outcome dates None count number lines) (dates_of seen (leap_records_from number count lines))
 agrees seen dates count number [] same = agrees_end seen dates count number same
 agrees seen dates count number (line ∷ lines) same =
     rw (outcome_step dates None count number line lines) (rw (records_step number count line lines) (agrees_by seen dates count number lines (line_says number count line) same (agrees seen dates count (number + 1) lines same) (λ date permutes. agrees (date ∷ seen) (with_date date dates) (count + 1) (number + 1) lines permutes)))

@@ -175,15 +175,15 @@ before_rest entry (Err fault) = Err fault
 
 -- The records of lines, numbered from a number on, where some records stand before them; or the fault of the first line
 -- that has a cause.
-unfoldable pub records_from : ℕ → ℕ → List (List ℕ) → Result (List LeapRecord) Fault
-records_from number earlier [] = Ok []
-records_from number earlier (line ∷ lines) =
+unfoldable pub leap_records_from : ℕ → ℕ → List (List ℕ) → Result (List LeapRecord) Fault
+leap_records_from number earlier [] = Ok []
+leap_records_from number earlier (line ∷ lines) =
     elim (line_says number earlier line) [
       | Ok said ↦
           elim said [
-            | None ↦ records_from (number + 1) earlier lines
+            | None ↦ leap_records_from (number + 1) earlier lines
             | Some date ↦
-                before_rest (record { line = number; date = date }) (records_from (number + 1) (earlier + 1) lines)
+                before_rest (record { line = number; date = date }) (leap_records_from (number + 1) (earlier + 1) lines)
           ]
       | Err cause ↦ Err (fault_at number cause)
     ]
@@ -210,7 +210,7 @@ dates_of earlier (Err fault) = Err fault
 -- The dates of a text's records, as they stand in the text. Of a text that is refused: the first line that has a cause by
 -- itself and by the records before it, with its least cause; else the first line whose date an earlier record has.
 unfoldable pub leap_dates_of : List ℕ → Result (List ℤ) Fault
-leap_dates_of text = dates_of [] (records_from 1 0 (lines_of text))
+leap_dates_of text = dates_of [] (leap_records_from 1 0 (lines_of text))
 
 -- the leap dates, which ascend, are those of the text's records
 pub record ReadsLeaps (text : List ℕ) (leaps : Leaps) : Type 0 where

@@ -1,4 +1,4 @@
-use Rattle.std.proofs.Common.{arith, ◌<◌, ◌≤◌}
+use Rattle.std.proofs.Common.{arith}
 use Rattle.tz_lines.proofs.LeapLines.{blank_late, blank_said}
 use Rattle.tz_lines.proofs.leap_line.blank_line.Goals as goal
 

@@ -1,4 +1,4 @@
-use Rattle.std.proofs.Common.{◌≡◌, sym, ap, ◌∙◌, arith, rules, FitsSigned, to_z-of_z, w64}
+use Rattle.std.proofs.Common.{sym, ap, ◌∙◌, arith, rules, FitsSigned, to_z-of_z, w64}
 use Rattle.tz_lines.specs.LeapOutcome.{fields_say}
 use Rattle.tz_lines.proofs.LeapLines.{none_all, refused_fields, dated_fields}
 use Rattle.tz_lines.proofs.leap_line.date_of_fields.Goals as goal

@@ -1,5 +1,4 @@
-use Rattle.std.proofs.Common.{◌≡◌, sym, ap, ◌∙◌, arith, true, false}
-use Rattle.std.specs.List.{list_any}
+use Rattle.std.proofs.Common.{sym, ◌∙◌, arith}
 use Rattle.tz_lines.proofs.LeapLines.{long_line, nul_line, open_line, whole_line}
 use Rattle.tz_lines.proofs.leap_line.read_line.Goals as goal
 

@@ -1,4 +1,3 @@
-use Rattle.std.proofs.Common.{◌≡◌, sym, ap, ◌∙◌}
 use Rattle.tz_lines.proofs.LeapOutcomes.{line_refused, repeat_refused, all_read}
 use Rattle.tz_lines.proofs.leap_reading.read_leaps.Goals as goal
 

@@ -1,4 +1,4 @@
-use Rattle.std.proofs.Common.{◌≡◌, ◌<◌, refl, sym, rules, arith, FitsSigned, w64, to_z-of_z, IsSome}
+use Rattle.std.proofs.Common.{◌<◌, refl, sym, rules, arith, FitsSigned, w64, to_z-of_z}
 use Rattle.tz_lines.proofs.LeapOutcomes.{outcome_blank, outcome_added, cause_comes}
 use Rattle.tz_types.specs.Limit.{most_leaps}
 use Rattle.tz_lines.proofs.leap_reading.take_line.Goals as goal
