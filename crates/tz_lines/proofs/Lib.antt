@@ -4,3 +4,7 @@ pub mod Outcomes
 pub mod Adding
 pub mod Rising
 pub mod Whole
+pub mod PlainDays
+pub mod LeapLines
+pub mod LeapDates
+pub mod LeapOutcomes

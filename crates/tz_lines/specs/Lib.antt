@@ -4,3 +4,7 @@ pub mod Outcome
 pub mod Begun
 pub mod Refusal
 pub mod Locate
+pub mod LeapText
+pub mod PlainDay
+pub mod LeapOutcome
+pub mod LeapRefusal

@@ -1,0 +1,110 @@
+ghost use Rattle.std.specs.Prelude.{◌≡◌, ◌==◌, nat_eq, IsTrue, IfSome, codes};
+ghost use Rattle.std.specs.List.{list_any};
+ghost use Rattle.tz_types.specs.Year.{IsRuleYear};
+ghost use Rattle.tz_types.specs.Calendar.{has_day};
+ghost use Rattle.tz_types.specs.declared.calendar.On.TheVariants.{Day};
+ghost use Rattle.tz_specs.specs.Day.{day_number_of};
+ghost use Rattle.tz_lines.specs.PlainDay.{number_alone};
+ghost use Rattle.tz_lines.specs.LeapText.{leap_year_of, month_named, leap_day_of, midnight_after, is_stationary};
+
+use tz_text::{named, on, year};
+use tz_types::{Month, On, day_of, has_day};
+
+const MONTHS: &[u8] =
+    b"January February March April May June July August September October November December";
+
+const KINDS: &[u8] = b"Stationary Rolling";
+
+/// A year from -9998 to 9998.
+pub fn leap_year(field: &[u8]) -> Option<i32>
+    ensures value { result ≡ leap_year_of field.now }
+    ensures bound { IfSome result IsRuleYear }
+{
+    let year = year(field)?;
+    if year.unsigned_abs() <= 9_998 {
+        Some(year)
+    } else {
+        None
+    }
+}
+
+/// The month that the word names.
+#[tactic(auto, unfolding(crate::specs::LeapText::month_named))]
+pub fn month(word: &[u8]) -> Option<Month>
+    ensures { result ≡ month_named word.now }
+{
+    match named(word, MONTHS)? {
+        0 => Some(Month::January),
+        1 => Some(Month::February),
+        2 => Some(Month::March),
+        3 => Some(Month::April),
+        4 => Some(Month::May),
+        5 => Some(Month::June),
+        6 => Some(Month::July),
+        7 => Some(Month::August),
+        8 => Some(Month::September),
+        9 => Some(Month::October),
+        10 => Some(Month::November),
+        11 => Some(Month::December),
+        _ => None,
+    }
+}
+
+/// The day number, where the day is that alone.
+fn number_alone(on: Option<On>) -> Option<u8>
+    ensures { result ≡ number_alone on }
+{
+    match on {
+        Some(On::Day(day)) => Some(day),
+        Some(On::Last(_) | On::From(_, _) | On::UpTo(_, _)) | None => None,
+    }
+}
+
+/// A day number alone, from 1 to 31.
+#[tactic(auto, using(crate::proofs::PlainDays::alone))]
+fn plain_day(field: &[u8]) -> Option<u8>
+    ensures { result ≡ day_number_of field.now }
+{
+    number_alone(on(field))
+}
+
+/// A plain day number that the month has in that year.
+pub fn leap_day(year: i32, month: Month, field: &[u8]) -> Option<u8>
+    requires { IsRuleYear year }
+    ensures value { result ≡ leap_day_of year month field.now }
+    ensures day { IfSome result (λ day. IsTrue (has_day year month (Day day))) }
+{
+    let day = plain_day(field)?;
+    if has_day(year, month, On::Day(day)) {
+        Some(day)
+    } else {
+        None
+    }
+}
+
+/// The midnight that follows the day, in seconds from 1970-01-01 00:00:00.
+#[tactic(auto, unfolding(tz_types::specs::Calendar::day_number))]
+pub fn midnight_after(year: i32, month: Month, day: u8) -> i64
+    requires year_in { IsRuleYear year }
+    requires day_in { IsTrue (has_day year month (Day day)) }
+    ensures { result ≡ midnight_after year month day }
+{
+    86_400 * (day_of(year, month, On::Day(day)) + 1)
+}
+
+/// Whether the word names the kind of seconds that stand still, in universal time.
+pub fn is_stationary(word: &[u8]) -> bool
+    ensures { result ≡ is_stationary word.now }
+{
+    match named(word, KINDS) {
+        Some(place) => place == 0,
+        None => false,
+    }
+}
+
+/// Whether the line has a NUL byte.
+pub fn has_nul(line: &[u8]) -> bool
+    ensures { result ≡ list_any (λ byte. byte == 0) line.now }
+{
+    line.iter().any(|byte| *byte == 0)
+}
