@@ -1,8 +1,8 @@
 -- How entries add to the zone that was begun.
-use Rattle.std.proofs.Common.{◌≡◌, ℕ, ◌+◌, Bool, Result, Ok, Err, IfErr, List, [], ◌∷◌, ◌++◌, Option, Some, None, is_some, option_map, map, refl, sym, ap, ◌∙◌}
+use Rattle.std.proofs.Common.{◌≡◌, ℕ, ◌+◌, Bool, Result, Ok, Err, IfErr, List, [], ◌∷◌, ◌++◌, Option, Some, None, is_some, map, sym, ap, ◌∙◌}
 use Rattle.tz_types.specs.declared.zone.Zone.{Zone}
 use Rattle.tz_types.specs.declared.zone_line.ZoneLine.{ZoneLine}
-use Rattle.tz_specs.specs.Record.{WrittenZone, WrittenLine, Record, written_line, written_zone, wants_more}
+use Rattle.tz_specs.specs.Record.{WrittenZone, WrittenLine, Record, written_line, written_zone}
 use Rattle.tz_lines.specs.Outcome.{wants_line, last_wants, built_after, reading_of, outcome}
 use Rattle.tz_lines.specs.Refusal.{MeansFault, Refuses}
 use Rattle.tz_lines.specs.declared.error.ReadError.{ReadError}

@@ -1,10 +1,9 @@
 -- How the outcome of a text follows, line by line.
-use Rattle.std.proofs.Common.{◌≡◌, ◌≢◌, ℕ, zero, suc, ◌+◌, ◌<◌, ◌≤◌, Bool, true, false, IsTrue, not, nat_le, ◌&&◌, List, [], ◌∷◌, ◌++◌, length, map, Option, Some, None, is_some, option_map, if◌then◌else◌, refl, sym, ap, ◌∙◌, ⊎_elim, append_assoc, length-append, arith}
-use Rattle.std.proofs.lemmas.Bool.{cases_Bool}
+use Rattle.std.proofs.Common.{◌≡◌, ℕ, ◌+◌, ◌<◌, ◌≤◌, Bool, true, false, nat_le, ◌&&◌, List, [], ◌∷◌, ◌++◌, length, map, Option, Some, None, is_some, option_map, if◌then◌else◌, refl, ap, ◌∙◌, append_assoc, length-append, arith}
 use Rattle.std.proofs.lemmas.Bool.Decides.{nat_tests}
 use Rattle.tz_types.specs.Limit.{most_lines}
 use Rattle.tz_specs.specs.Choice.{◌>>=◌, only_if}
-use Rattle.tz_specs.specs.Record.{WrittenLine, WrittenZone, Record, has_none, built_fields_of, record_of, zone_record_of, continuation_of, line_of, records_from, wants_more, continued_by, zones_of, begun, are_built_zones, is_built_zone, ends_rise}
+use Rattle.tz_specs.specs.Record.{WrittenLine, WrittenZone, Record, has_none, built_fields_of, record_of, records_from, wants_more, continued_by, zones_of, begun, are_built_zones}
 use Rattle.tz_lines.specs.Outcome.{reading_of, last_wants, wants_line, zones_after, built_after, outcome}
 
 -- the records of a line and those after it, by what the line says

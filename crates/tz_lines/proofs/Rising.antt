@@ -1,5 +1,5 @@
 -- Lines whose ends rise lead through time.
-use Rattle.std.proofs.Common.{◌≡◌, ℕ, ◌+◌, ◌-◌, ◌<◌, Bool, true, false, ◌&&◌, nat_eq, IsTrue, List, [], ◌∷◌, length, drop, get_or, map, Option, Some, None, option_map, refl, sym, ap, ◌∙◌, arith, ℤ, ◌≤ℤ◌, ◌<ℤ◌, int_lt}
+use Rattle.std.proofs.Common.{◌≡◌, ℕ, ◌+◌, ◌-◌, ◌<◌, true, false, nat_eq, IsTrue, List, [], ◌∷◌, length, drop, get_or, map, Option, Some, None, option_map, refl, sym, ap, ◌∙◌, arith, ℤ, ◌<ℤ◌, int_lt}
 use Rattle.std.specs.List.{list_all}
 use Rattle.std.proofs.lemmas.Int.{ints}
 use Rattle.std.proofs.lemmas.Bool.Decides.{nat_tests}
@@ -11,7 +11,7 @@ use Rattle.tz_types.specs.declared.zone_line.ZoneLine.{ZoneLine}
 use Rattle.tz_types.specs.declared.format.Format.{Format}
 use Rattle.tz_types.specs.declared.until.Until.{Until}
 use Rattle.tz_specs.specs.Until.{Nothing, until_instant}
-use Rattle.tz_specs.specs.Expansion.{first_instant, end_of_time, following_of, finish_of, period_from, periods_from}
+use Rattle.tz_specs.specs.Expansion.{end_of_time, following_of, finish_of, periods_from}
 use Rattle.tz_specs.specs.Sound.{leads}
 use Rattle.tz_specs.specs.Record.{has_none, is_plain, has_no_rules, written_line, written_finish, ends_rise}
 

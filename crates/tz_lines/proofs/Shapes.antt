@@ -1,10 +1,10 @@
 -- Lists of fields by how many they are.
-use Rattle.std.proofs.Common.{◌≡◌, ◌≢◌, Bool, true, false, codes, map, is_some, option_map, if◌then◌else◌, ⊎_elim, ℕ, zero, suc, ◌+◌, ◌-◌, ◌<◌, ◌≤◌, List, [], ◌∷◌, length, drop, get_or, Option, Some, None, refl, sym, ap, ◌∙◌, arith}
+use Rattle.std.proofs.Common.{◌≡◌, ◌≢◌, Bool, true, false, codes, map, is_some, option_map, if◌then◌else◌, ⊎_elim, ℕ, zero, suc, ◌+◌, ◌<◌, ◌≤◌, List, [], ◌∷◌, length, drop, get_or, Option, Some, None, refl, ap, ◌∙◌, arith}
 use Rattle.std.proofs.lemmas.List.{drop_more, drop_all}
 use Rattle.tz_types.specs.declared.until.Until.{Until}
 use Rattle.tz_types.specs.declared.zone_line.ZoneLine.{ZoneLine}
 use Rattle.tz_specs.specs.Choice.{◌>>=◌, only_if}
-use Rattle.tz_specs.specs.Record.{WrittenUntil, is_word, name_of, stdoff_of, no_rules_of, format_of, until_of, line_of, zone_record_of, record_of, written_line, has_none, is_plain_line}
+use Rattle.tz_specs.specs.Record.{is_word, name_of, stdoff_of, no_rules_of, format_of, until_of, line_of, zone_record_of, record_of, written_line, has_none, is_plain_line}
 use Rattle.tz_lines.specs.WrittenUntil.{written_until}
 use Rattle.tz_lines.specs.Outcome.{last_wants, reading_of}
 use Rattle.tz_text.specs.Kept.{Kept, kept_of}

@@ -1,5 +1,5 @@
 -- Zones by name.
-use Rattle.std.specs.Prelude.{ℕ, nat_eq, Bool, List, Option, Some, None, map, option_map, position, find}
+use Rattle.std.specs.Prelude.{ℕ, nat_eq, Bool, List, Option, option_map, position, find}
 use Rattle.std.specs.Cmp.Lexicographic.{pointwise}
 use Rattle.tz_types.specs.declared.zone.Zone.{Zone}
 use Rattle.tz_types.specs.declared.link.Link.{Link}

@@ -1,5 +1,5 @@
 -- What the lines of a text come to, when a zone has been begun by those before them.
-use Rattle.std.specs.Prelude.{◌≡◌, ℕ, ◌+◌, Bool, true, false, if◌then◌else◌, List, [], ◌∷◌, ◌++◌, Option, Some, None, is_some, option_map}
+use Rattle.std.specs.Prelude.{ℕ, Bool, false, if◌then◌else◌, List, [], ◌∷◌, ◌++◌, Option, Some, None, is_some, option_map}
 use Rattle.tz_specs.specs.Choice.{◌>>=◌, only_if}
 use Rattle.tz_specs.specs.Record.{WrittenLine, WrittenZone, Record, has_none, built_fields_of, record_of, records_from, continued_by, zones_of, are_built_zones}
 

@@ -1,5 +1,5 @@
 -- When a text is refused.
-use Rattle.std.specs.Prelude.{◌≡◌, List, ℕ, Option, None}
+use Rattle.std.specs.Prelude.{◌≡◌, Option, None}
 use Rattle.tz_types.specs.declared.fault.Fault.{Fault}
 use Rattle.tz_lines.specs.declared.error.ReadError.{ReadError}
 use Rattle.tz_lines.specs.declared.error.ReadError.TheVariants as errors

@@ -1,9 +1,7 @@
-use Rattle.std.proofs.Common.{◌≡◌, ◌+◌, List, drop, IsTrue, rules, arith, FitsSigned, to_z, ◌<ℤ◌}
+use Rattle.std.proofs.Common.{rules, arith, FitsSigned, to_z, ◌<ℤ◌}
 use Rattle.std.specs.Int.{w64}
 use Rattle.std.proofs.lemmas.Int.{ints, to_z-of_z}
-use Rattle.tz_types.specs.declared.rule_set.RuleSet.{RuleSet}
-use Rattle.tz_specs.specs.Expansion.{first_instant, end_of_time, periods_from}
-use Rattle.tz_specs.specs.Sound.{leads}
+use Rattle.tz_specs.specs.Expansion.{first_instant}
 use Rattle.tz_lines.proofs.Rising.{step_last, leads_at_last, step_on, leads_through, plain_on, rises_when}
 use Rattle.tz_lines.proofs.building.rise.Goals as goal
 

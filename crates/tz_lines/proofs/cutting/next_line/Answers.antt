@@ -1,4 +1,4 @@
-use Rattle.std.proofs.Common.{length, slice_index, ◌+◌}
+use Rattle.std.proofs.Common.{slice_index, ◌+◌}
 use Rattle.std.proofs.lemmas.List.{take_rest}
 use Rattle.std.proofs.Math.Numerals.{add-one}
 use Rattle.tz_lines.proofs.Lines.{first_line, last_line, lines-none, is_newline, none_left}

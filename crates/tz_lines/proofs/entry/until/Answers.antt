@@ -1,4 +1,4 @@
-use Rattle.std.proofs.Common.{◌≡◌, ◌≢◌, length, drop, sym, arith}
+use Rattle.std.proofs.Common.{drop, sym, arith}
 use Rattle.std.proofs.lemmas.List.{length-drop}
 use Rattle.tz_lines.proofs.Shapes.{until-none, until-other}
 use Rattle.tz_lines.proofs.entry.until.Goals as goal

@@ -1,4 +1,4 @@
-use Rattle.std.proofs.Common.{◌≡◌, length, drop, sym, arith}
+use Rattle.std.proofs.Common.{drop, sym, arith}
 use Rattle.std.proofs.lemmas.List.{length-drop}
 use Rattle.tz_lines.proofs.Shapes.{line-short}
 use Rattle.tz_lines.proofs.entry.zone_line.Goals as goal

@@ -1,4 +1,3 @@
-use Rattle.std.proofs.Common.{◌≡◌, Ok}
 use Rattle.std.proofs.lemmas.Result.{on_ok_weaker}
 use Rattle.tz_lines.specs.Written.{written_entry}
 use Rattle.tz_lines.proofs.Adding.{refused, exceeded, blank, added, if_err_weaker}

@@ -1,4 +1,4 @@
-use Rattle.std.proofs.Common.{◌≡◌, ◌+◌, ◌<◌, ◌≤◌, refl, inl, sym, ap, ◌∙◌, length, [], arith}
+use Rattle.std.proofs.Common.{◌≡◌, ◌<◌, refl, inl, sym, ap, ◌∙◌, length, [], arith}
 use Rattle.std.proofs.lemmas.Bool.Decides.{nat_tests}
 use Rattle.tz_specs.specs.Line.{lines_of}
 use Rattle.tz_lines.specs.Outcome.{outcome}
