@@ -3,3 +3,4 @@ pub mod States
 pub mod Pieces
 pub mod Numbers
 pub mod Locals
+pub mod Leaps

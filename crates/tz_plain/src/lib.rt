@@ -5,6 +5,7 @@
 #![tactic(auto)]
 
 mod keeping;
+mod leaping;
 mod listing;
 mod local;
 mod naming;
@@ -16,6 +17,9 @@ mod until;
 mod zone;
 
 pub use keeping::Keeping;
+pub use leaping::{
+    elapsed_by, gps_count, inserted_second, is_inserted, system_time, tai_count, utc_count,
+};
 pub use listing::occurrences;
 pub use local::{candidates, chosen_instant, local_info, range_at};
 pub use naming::abbreviation;

@@ -439,3 +439,67 @@ fn local_times_of_new_york(rt: HostRuntime) -> Result<(), Fail> {
     }
     Ok(())
 }
+
+#[test]
+fn ranges_of_another_version(rt: HostRuntime) -> Result<(), Fail> {
+    let mut db = new_york(rt.alloc())?;
+    for version in ["2024a", "2024b"] {
+        db.version = VersionText::new(version.as_bytes())?;
+        assert!(rt; has_rows(rt.alloc(), &db, [(1_710_054_000, DAYLIGHT)].as_slice())?);
+    }
+    Ok(())
+}
+
+/// The leap dates from 1972 to 2017.
+const LEAP_DATES: [i64; 27] = [
+    78_796_800,
+    94_694_400,
+    126_230_400,
+    157_766_400,
+    189_302_400,
+    220_924_800,
+    252_460_800,
+    283_996_800,
+    315_532_800,
+    362_793_600,
+    394_329_600,
+    425_865_600,
+    489_024_000,
+    567_993_600,
+    631_152_000,
+    662_688_000,
+    709_948_800,
+    741_484_800,
+    773_020_800,
+    820_454_400,
+    867_715_200,
+    915_148_800,
+    1_136_073_600,
+    1_230_768_000,
+    1_341_100_800,
+    1_435_708_800,
+    1_483_228_800,
+];
+
+#[test]
+fn leap_seconds_until_2017(rt: HostRuntime) -> Result<(), Fail> {
+    let dates = LEAP_DATES.as_slice();
+    assert_eq!(rt; utc_count(dates, 1_483_228_800), 1_483_228_827);
+    assert_eq!(rt; inserted_second(dates, 1_483_228_800), 1_483_228_826);
+    assert_eq!(rt; elapsed_by(dates, 1_483_228_826), 27);
+    assert!(rt; is_inserted(dates, 1_483_228_826));
+    assert_eq!(rt; system_time(dates, 1_483_228_826), 1_483_228_799);
+    assert_eq!(rt; tai_count(1_483_228_827), 1_861_920_037);
+    assert_eq!(rt; gps_count(1_483_228_827), 1_167_264_018);
+    Ok(())
+}
+
+#[test]
+fn without_leap_seconds(rt: HostRuntime) -> Result<(), Fail> {
+    assert_eq!(rt; utc_count(&[], 0), 0);
+    assert_eq!(rt; elapsed_by(&[], 0), 0);
+    assert!(rt; !is_inserted(&[], 0));
+    assert_eq!(rt; system_time(&[], 0), 0);
+    assert_eq!(rt; tai_count(0), 378_691_210);
+    Ok(())
+}
