@@ -1,5 +1,6 @@
-//! The meaning of zones computed plainly: every occurrence is listed, every line cut, every range looked at,
-//! just as the definitions say. It is slow, and stays so: faster programs are compared with it.
+//! The meaning of zones and of leap seconds computed plainly: every occurrence is listed, every line cut, every
+//! range and every leap date looked at, just as the definitions say. It is slow, and stays so: faster programs
+//! are compared with it.
 //!
 //! The contract of each function is its definition. Nothing that is shipped stands on this crate.
 #![tactic(auto)]
