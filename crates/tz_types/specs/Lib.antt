@@ -6,3 +6,4 @@ pub mod Format
 pub mod Saves
 pub mod Order
 pub mod Limit
+pub mod Cause

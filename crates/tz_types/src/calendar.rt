@@ -1,9 +1,9 @@
 ghost use Rattle.std.specs.Prelude.{◌≡◌, ℕ, ◌+◌, ◌-◌, ◌<◌, ◌≤◌, pos, neg_ℤ, ◌+ℤ◌, ◌-ℤ◌, ◌≤ℤ◌, ◌<ℤ◌, IsTrue};
 ghost use Rattle.std.specs.Int.{IsInRange};
-ghost use Rattle.jiff_core.specs.Calendar.{days_from_civil, days_in_month, weekday_number, IsBetween, IsYear, IsEpochDay};
+ghost use Rattle.jiff_core.specs.Calendar.{days_from_civil, days_in_month, is_leap_year, weekday_number, IsBetween, IsYear, IsEpochDay};
 ghost use Rattle.jiff_core.specs.Date.{epoch_day};
 ghost use Rattle.tz_types.specs.Year.{IsRuleYear};
-ghost use Rattle.tz_types.specs.Calendar.{month_number, monday_zero, has_day, is_day_up_to, longest_month, counted_day, on_or_after, on_or_before, day_number, LiesInYear};
+ghost use Rattle.tz_types.specs.Calendar.{month_number, monday_zero, has_day, has_day_through, is_day_up_to, longest_month, shortest_month, counted_day, on_or_after, on_or_before, day_number, LiesInYear};
 
 use jiff_core::civil::{Date, days_in_month};
 
@@ -156,6 +156,39 @@ pub fn has_day(year: i32, month: Month, on: On) -> bool
 {
     match on {
         On::Day(day) => is_up_to(day, month_length(year, month)),
+        On::Last(_) => true,
+        On::From(_, day) => is_up_to(day, month_length(2000, month)),
+        On::UpTo(_, day) => is_up_to(day, month_length(2000, month)),
+    }
+}
+
+/// Whether the year has a 29 February, as every fourth year, but of the centuries only every fourth.
+fn is_leap_year(year: i32) -> bool
+    ensures { result ≡ is_leap_year year }
+{
+    let year = year.unsigned_abs();
+    year % 4 == 0 && (year % 100 != 0 || year % 400 == 0)
+}
+
+/// How many days the month has in a year that may lie far outside of those in which rules occur.
+fn length_in(year: i32, month: Month) -> u8
+    ensures { result ≡ days_in_month year (month_number month) }
+{
+    if is_leap_year(year) {
+        month_length(2000, month)
+    } else {
+        month_length(2001, month)
+    }
+}
+
+/// Whether the day can be asked for in every year from one to another: 29 February as a plain day number takes one
+/// single leap year.
+pub fn has_day_through(from: i32, to: i32, month: Month, on: On) -> bool
+    ensures { result ≡ has_day_through from to month on }
+{
+    match on {
+        On::Day(day) if from == to => is_up_to(day, length_in(from, month)),
+        On::Day(day) => is_up_to(day, month_length(2001, month)),
         On::Last(_) => true,
         On::From(_, day) => is_up_to(day, month_length(2000, month)),
         On::UpTo(_, day) => is_up_to(day, month_length(2000, month)),

@@ -6,6 +6,7 @@
 #![tactic(auto)]
 
 mod calendar;
+mod cause;
 mod counter;
 mod database;
 mod fault;
@@ -25,7 +26,8 @@ mod until;
 mod zone;
 mod zone_line;
 
-pub use calendar::{Month, On, Weekday, civil_year, day_of, has_day};
+pub use calendar::{Month, On, Weekday, civil_year, day_of, has_day, has_day_through};
+pub use cause::Cause;
 pub use counter::Steps;
 pub use database::Db;
 pub use fault::Fault;

@@ -1,8 +1,8 @@
-use Rattle.std.proofs.Common.{◌≡◌, ℤ, pos, ◌+ℤ◌, ◌*ℤ◌, ◌≤ℤ◌, ◌<ℤ◌, FitsSigned, rules, sym, ◌∙◌, arith}
+use Rattle.std.proofs.Common.{◌≡◌, pos, ◌+ℤ◌, ◌*ℤ◌, ◌≤ℤ◌, ◌<ℤ◌, FitsSigned, rules, ◌∙◌, arith}
 use Rattle.std.specs.Int.{w16, w32, w64, int_div_euclid}
 use Rattle.std.proofs.lemmas.Int.{to_z-of_z}
 use Rattle.jiff_core.specs.Date.{epoch_day}
-use Rattle.jiff_core.proofs.SignedLemmas.{signed_arith, signed_casts}
+use Rattle.jiff_core.proofs.SignedLemmas.{signed_arith}
 use Rattle.tz_types.proofs.Days.{second_in_year}
 use Rattle.tz_types.proofs.calendar.civil_year.Goals as goal
 
