@@ -4,7 +4,7 @@ use Rattle.tz_types.specs.declared.format.Format.{Format}
 use Rattle.tz_specs.specs.Until.{Following, Nothing, Fixed, Rules}
 use Rattle.tz_specs.specs.Expansion.{Period, first_instant, end_of_time}
 use Rattle.tz_specs.specs.Sound.{leads}
-use Rattle.tz_specs.specs.Record.{is_text}
+use Rattle.tz_specs.specs.Unbuilt.{is_text}
 use Rattle.tz_expand.specs.declared.compiled_line.CompiledRules.{CompiledRules}
 use Rattle.tz_expand.specs.declared.compiled_line.CompiledRules.TheVariants as rules
 use Rattle.tz_expand.specs.declared.compiled_line.CompiledLine.{CompiledLine}

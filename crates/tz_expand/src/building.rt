@@ -5,7 +5,7 @@ ghost use Rattle.tz_types.specs.declared.rule_set.RuleSet.{RuleSet};
 ghost use Rattle.tz_types.specs.declared.zone_line.ZoneLine.{ZoneLine};
 ghost use Rattle.tz_specs.specs.Expansion.{first_instant, finish_of, period_from, periods_from};
 ghost use Rattle.tz_specs.specs.Sound.{is_sound};
-ghost use Rattle.tz_specs.specs.Record.{is_plain as is_plain_line, is_plain_zone};
+ghost use Rattle.tz_specs.specs.Unbuilt.{is_plain as is_plain_line, is_plain_zone};
 ghost use Rattle.tz_expand.specs.Compiled.{period_of, periods, is_plain};
 ghost use Rattle.tz_expand.specs.Zone.{IsCompiled};
 

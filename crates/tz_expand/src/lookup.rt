@@ -1,7 +1,7 @@
 ghost use Rattle.std.specs.Prelude.{◌≡◌, ◌↔◌, IsTrue, IsSome};
 ghost use Rattle.std.specs.List.{list_all};
 ghost use Rattle.tz_specs.specs.Expansion.{IsInstant, range_of, range_at};
-ghost use Rattle.tz_specs.specs.Record.{is_text};
+ghost use Rattle.tz_specs.specs.Unbuilt.{is_text};
 ghost use Rattle.tz_expand.specs.Compiled.{period_of, is_plain};
 ghost use Rattle.tz_expand.specs.Zone.{expansion_of};
 

@@ -17,3 +17,8 @@ pub mod OffsetLemmas
 pub mod Heads
 pub mod Standing
 pub mod LeapLemmas
+pub mod Sameness
+pub mod TextLemmas
+pub mod AscendingLemmas
+pub mod SameDatabase
+pub mod SoFarLemmas

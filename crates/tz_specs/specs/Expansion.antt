@@ -74,7 +74,8 @@ periods_from sets start (line ∷ lines) =
 unfoldable pub periods_of : Db → Zone → List Period
 periods_of db zone = periods_from db.sets first_instant zone.lines
 
--- the number of the occurrence that is in effect in the period at t
+-- what is in force in the period at t: no save without rules, a fixed save, or what the occurrence then in effect puts
+-- in force
 abbrev pub state_in : Period → ℤ → InForce
 state_in period t = by_rules period.following
   where

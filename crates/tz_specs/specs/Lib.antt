@@ -18,5 +18,12 @@ pub mod Standing
 pub mod Shown
 pub mod Effect
 pub mod Around
+pub mod Causes
+pub mod Written
+pub mod Value
 pub mod Record
+pub mod Contents
+pub mod Whole
+pub mod Reads
+pub mod Unbuilt
 pub mod LeapSecond

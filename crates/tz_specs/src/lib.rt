@@ -12,6 +12,7 @@ mod local_laws;
 mod occurrence_laws;
 mod range_laws;
 mod state_laws;
+mod text_laws;
 mod zone_laws;
 
 pub use around_laws::{
@@ -43,4 +44,5 @@ pub use range_laws::{
     ranges_run_from_cut_to_cut,
 };
 pub use state_laws::{state_holds_at_its_instant, state_is_last_come};
+pub use text_laws::{at_most_one_database, at_most_one_fault, read_texts_are_not_refused};
 pub use zone_laws::sound_zones_tell_all_times;

@@ -2,7 +2,7 @@ use Rattle.std.proofs.Common.{◌≡◌, ◌++◌, drop, List, IsTrue}
 use Rattle.std.specs.List.{list_all}
 use Rattle.tz_types.specs.declared.rule_set.RuleSet.{RuleSet}
 use Rattle.tz_specs.specs.Expansion.{first_instant, periods_from}
-use Rattle.tz_specs.specs.Record.{is_plain as is_plain_line}
+use Rattle.tz_specs.specs.Unbuilt.{is_plain as is_plain_line}
 use Rattle.tz_expand.specs.Compiled.{periods, is_plain}
 use Rattle.tz_expand.proofs.building.lines_in_time.Given as goal
 

@@ -1,0 +1,11 @@
+pub mod Choices
+pub mod Digits
+pub mod Amounts
+pub mod Formats
+pub mod Good
+pub mod Names
+pub mod GoodContents
+pub mod Making
+pub mod Sorting
+pub mod Zones
+pub mod Existing
