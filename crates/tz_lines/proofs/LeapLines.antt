@@ -9,25 +9,28 @@ use Rattle.tz_specs.specs.Field.{fields_of}
 use Rattle.tz_specs.specs.Number.{number_of, signed_number_of}
 use Rattle.tz_specs.specs.Word.{named_entry}
 use Rattle.tz_text.specs.Kept.{Kept, kept_of, most_kept}
-use Rattle.tz_lines.specs.declared.leap_cause.LeapCause.{LeapCause}
-use Rattle.tz_lines.specs.declared.leap_cause.LeapCause.TheVariants as causes
-use Rattle.tz_lines.specs.LeapText.{field_at, leap_keyword, leap_date, least_cause, value_causes, field_causes, fields_or_none, exceeds_limit, unless_cause, line_says}
+use Rattle.tz_types.specs.declared.cause.Cause.{Cause}
+use Rattle.tz_types.specs.declared.cause.Cause.TheVariants as causes
+use Rattle.tz_specs.specs.Causes.{least_cause, unless_cause}
+use Rattle.tz_specs.specs.Contents.{fields_or_none}
+use Rattle.tz_specs.specs.Value.{field_at}
+use Rattle.tz_lines.specs.LeapText.{leap_keyword, leap_date, value_causes, field_causes, exceeds_limit, line_says}
 use Rattle.tz_lines.specs.LeapOutcome.{Says, fields_say, is_too_many, unless_too_many}
 
-step_before : (holds : Bool) (first cause : LeapCause) (a b : Option LeapCause) → (a ≡ Some cause → b ≡ Some cause) → (if holds then Some first else a) ≡ Some cause → (if holds then Some first else b) ≡ Some cause
+step_before : (holds : Bool) (first cause : Cause) (a b : Option Cause) → (a ≡ Some cause → b ≡ Some cause) → (if holds then Some first else a) ≡ Some cause → (if holds then Some first else b) ≡ Some cause
 step_before true first cause a b next h = h
 step_before false first cause a b next h = next h
 
-step_after : (holds : Bool) (first : LeapCause) (a b c : Option LeapCause) → (a ≡ None → b ≡ c) → (if holds then Some first else a) ≡ None → (if holds then Some first else b) ≡ c
+step_after : (holds : Bool) (first : Cause) (a b c : Option Cause) → (a ≡ None → b ≡ c) → (if holds then Some first else a) ≡ None → (if holds then Some first else b) ≡ c
 step_after true first a b c next h = cc
 step_after false first a b c next h = next h
 
-least_before : (rows later : List (LeapCause × Bool)) (cause : LeapCause) → least_cause rows ≡ Some cause → least_cause (rows ++ later) ≡ Some cause
+least_before : (rows later : List (Cause × Bool)) (cause : Cause) → least_cause rows ≡ Some cause → least_cause (rows ++ later) ≡ Some cause
 least_before [] later cause h = cc
 least_before (row ∷ rows) later cause h =
     step_before row.1 row.0 cause (least_cause rows) (least_cause (rows ++ later)) (λ e. least_before rows later cause e) h
 
-least_after : (rows later : List (LeapCause × Bool)) → least_cause rows ≡ None → least_cause (rows ++ later) ≡ least_cause later
+least_after : (rows later : List (Cause × Bool)) → least_cause rows ≡ None → least_cause (rows ++ later) ≡ least_cause later
 least_after [] later h = refl
 least_after (row ∷ rows) later h =
     step_after row.1 row.0 (least_cause rows) (least_cause (rows ++ later)) (least_cause later) (λ e. least_after rows later e) h
@@ -55,7 +58,7 @@ none_all (field ∷ fields) kept e none =
     let count : length (field ∷ fields) ≡ kept.count = ap (λ (it : Kept). it.count) e in
     absurd (omega arith)
 
-pub refused_fields : (all : List (List ℕ)) (number earlier : ℕ) (cause : LeapCause) → least_cause (field_causes all) ≡ Some cause → Err cause ≡ fields_say number earlier all
+pub refused_fields : (all : List (List ℕ)) (number earlier : ℕ) (cause : Cause) → least_cause (field_causes all) ≡ Some cause → Err cause ≡ fields_say number earlier all
 refused_fields all number earlier cause h =
     rw (least_before (field_causes all) ((causes.Limit, exceeds_limit number earlier all) ∷ []) cause h) refl
 
@@ -114,12 +117,12 @@ all_kept all kept e seven =
     let count : length all ≡ kept.count = ap (λ (it : Kept). it.count) e in
     sym (ap (λ (it : Kept). it.first) e) ∙ take_all most_kept all (omega arith)
 
-same_says : (rows others : List (LeapCause × Bool)) (date : Option ℤ) (told : Result ℤ LeapCause) → least_cause others ≡ least_cause rows → Says rows date told → Says others date told
+same_says : (rows others : List (Cause × Bool)) (date : Option ℤ) (told : Result ℤ Cause) → least_cause others ≡ least_cause rows → Says rows date told → Says others date told
 same_says rows others date (Ok found) e says = (e ∙ says.0, says.1)
 same_says rows others date (Err cause) e says = e ∙ says
 
 -- a record of seven fields says what its values say
-pub seven_fields : (all : List (List ℕ)) (kept : Kept) (named : Bool) (told : Result ℤ LeapCause) → kept_of all ≡ kept → named ≡ is_some (named_entry (field_at 0 kept.first) leap_keyword) → named ≡ true → kept.count ≡ 7 → Says (value_causes kept.first) (leap_date kept.first) told → Says (field_causes all) (leap_date all) told
+pub seven_fields : (all : List (List ℕ)) (kept : Kept) (named : Bool) (told : Result ℤ Cause) → kept_of all ≡ kept → named ≡ is_some (named_entry (field_at 0 kept.first) leap_keyword) → named ≡ true → kept.count ≡ 7 → Says (value_causes kept.first) (leap_date kept.first) told → Says (field_causes all) (leap_date all) told
 seven_fields all kept named told e is right seven says =
     same_says (value_causes all) (field_causes all) (leap_date all) told (values_first all kept named e is right seven) (rw (all_kept all kept e seven) at says)
 
@@ -137,7 +140,7 @@ nul_line number earlier line h nul =
     rw short (rw nul refl)
 
 -- what a line says by its fields
-says_by : ℕ → ℕ → Option (List (List ℕ)) → Result (Option ℤ) LeapCause
+says_by : ℕ → ℕ → Option (List (List ℕ)) → Result (Option ℤ) Cause
 says_by number earlier read =
     unless_cause (least_cause ((causes.OpenQuote, is_none read) ∷ (field_causes (fields_or_none read) ++ (causes.Limit, exceeds_limit number earlier (fields_or_none read)) ∷ []))) (leap_date (fields_or_none read))
 
@@ -155,13 +158,13 @@ pub open_line : (number earlier : ℕ) (line : List ℕ) → length line + 1 ≤
 open_line number earlier line h nul e =
     says_open number earlier (fields_of line) e ∙ short_line number earlier line h nul
 
-says_fields : (number earlier : ℕ) (read : Option (List (List ℕ))) (kept : Kept) (told : Result (Option ℤ) LeapCause) → option_map kept_of read ≡ Some kept → ((all : List (List ℕ)) → kept_of all ≡ kept → told ≡ fields_say number earlier all) → told ≡ says_by number earlier read
+says_fields : (number earlier : ℕ) (read : Option (List (List ℕ))) (kept : Kept) (told : Result (Option ℤ) Cause) → option_map kept_of read ≡ Some kept → ((all : List (List ℕ)) → kept_of all ≡ kept → told ≡ fields_say number earlier all) → told ≡ says_by number earlier read
 unfolding says_by
 says_fields number earlier None kept told e says = cc
 says_fields number earlier (Some all) kept told e says =
     let same : kept_of all ≡ kept = cc in
     says all same
 
-pub whole_line : (number earlier : ℕ) (line : List ℕ) (kept : Kept) (told : Result (Option ℤ) LeapCause) → length line + 1 ≤ 2_048 → list_any (λ byte. byte == 0) line ≡ false → option_map kept_of (fields_of line) ≡ Some kept → ((all : List (List ℕ)) → kept_of all ≡ kept → told ≡ fields_say number earlier all) → told ≡ line_says number earlier line
+pub whole_line : (number earlier : ℕ) (line : List ℕ) (kept : Kept) (told : Result (Option ℤ) Cause) → length line + 1 ≤ 2_048 → list_any (λ byte. byte == 0) line ≡ false → option_map kept_of (fields_of line) ≡ Some kept → ((all : List (List ℕ)) → kept_of all ≡ kept → told ≡ fields_say number earlier all) → told ≡ line_says number earlier line
 whole_line number earlier line kept told h nul e says =
     says_fields number earlier (fields_of line) kept told e says ∙ short_line number earlier line h nul

@@ -6,9 +6,10 @@ use Rattle.std.proofs.lemmas.Bool.{cases_Bool}
 use Rattle.std.proofs.lemmas.List.Sorted.{IsPermutation-refl, IsPermutation-insert, IsPermutation-trans, IsPermutation-cons, IsPermutation-middle, list_any-IsPermutation}
 use Rattle.std.specs.Ordering.{int_eq}
 use Rattle.tz_types.specs.declared.fault.Fault.{Fault}
-use Rattle.tz_lines.specs.declared.leap_cause.LeapCause.{LeapCause}
-use Rattle.tz_lines.specs.declared.leap_cause.LeapCause.TheVariants as causes
-use Rattle.tz_lines.specs.LeapText.{LeapRecord, before_rest, leap_records_from, is_among, first_repeat, unless_repeat, dates_of, fault_at, line_says, leap_dates_of, RefusesLeaps, ReadsLeaps}
+use Rattle.tz_types.specs.declared.cause.Cause.{Cause}
+use Rattle.tz_types.specs.declared.cause.Cause.TheVariants as causes
+use Rattle.tz_specs.specs.Causes.{fault_at}
+use Rattle.tz_lines.specs.LeapText.{LeapRecord, before_rest, leap_records_from, is_among, first_repeat, unless_repeat, dates_of, line_says, leap_dates_of, RefusesLeaps, ReadsLeaps}
 use Rattle.tz_types.specs.declared.leap_dates.Leaps.{Leaps}
 use Rattle.tz_specs.specs.Line.{lines_of}
 use Rattle.tz_lines.specs.LeapOutcome.{place_among, with_date, repeat_after, repeat_with, leap_outcome, Comes}
@@ -17,13 +18,13 @@ use Rattle.tz_lines.specs.declared.error.ReadError.{ReadError}
 use Rattle.tz_lines.specs.declared.error.ReadError.TheVariants as errors
 
 -- the outcome of a line and those after it, by what the line says
-abbrev outcome_by : List ℤ → Option ℕ → ℕ → ℕ → List (List ℕ) → Result (Option ℤ) LeapCause → Result (List ℤ) Fault
+abbrev outcome_by : List ℤ → Option ℕ → ℕ → ℕ → List (List ℕ) → Result (Option ℤ) Cause → Result (List ℤ) Fault
 outcome_by dates repeat count number lines (Ok None) = leap_outcome dates repeat count (number + 1) lines
 outcome_by dates repeat count number lines (Ok (Some date)) =
     leap_outcome (with_date date dates) (repeat_with repeat number date dates) (count + 1) (number + 1) lines
 outcome_by dates repeat count number lines (Err cause) = Err (fault_at number cause)
 
-by_outcome : (dates : List ℤ) (repeat : Option ℕ) (count number : ℕ) (lines : List (List ℕ)) (said : Result (Option ℤ) LeapCause) → elim said [ Ok told ↦ elim told [ None ↦ leap_outcome dates repeat count (number + 1) lines | Some date ↦ leap_outcome (with_date date dates) (repeat_with repeat number date dates) (count + 1) (number + 1) lines ] | Err cause ↦ Err (fault_at number cause) ] ≡ outcome_by dates repeat count number lines said
+by_outcome : (dates : List ℤ) (repeat : Option ℕ) (count number : ℕ) (lines : List (List ℕ)) (said : Result (Option ℤ) Cause) → elim said [ Ok told ↦ elim told [ None ↦ leap_outcome dates repeat count (number + 1) lines | Some date ↦ leap_outcome (with_date date dates) (repeat_with repeat number date dates) (count + 1) (number + 1) lines ] | Err cause ↦ Err (fault_at number cause) ] ≡ outcome_by dates repeat count number lines said
 by_outcome dates repeat count number lines (Ok None) = refl
 by_outcome dates repeat count number lines (Ok (Some date)) = refl
 by_outcome dates repeat count number lines (Err cause) = refl
@@ -32,7 +33,7 @@ outcome_step : (dates : List ℤ) (repeat : Option ℕ) (count number : ℕ) (li
 unfolding leap_outcome
 outcome_step dates repeat count number line lines = by_outcome dates repeat count number lines (line_says number count line)
 
-pub outcome_refused : (dates : List ℤ) (repeat : Option ℕ) (count number : ℕ) (line : List ℕ) (lines : List (List ℕ)) (cause : LeapCause) → line_says number count line ≡ Err cause → leap_outcome dates repeat count number (line ∷ lines) ≡ Err (fault_at number cause)
+pub outcome_refused : (dates : List ℤ) (repeat : Option ℕ) (count number : ℕ) (line : List ℕ) (lines : List (List ℕ)) (cause : Cause) → line_says number count line ≡ Err cause → leap_outcome dates repeat count number (line ∷ lines) ≡ Err (fault_at number cause)
 outcome_refused dates repeat count number line lines cause e =
     outcome_step dates repeat count number line lines ∙ ap (outcome_by dates repeat count number lines) e
 
@@ -50,7 +51,7 @@ outcome_added dates new_dates repeat new_repeat count new_count number line date
     rw (dates_are, repeat_is, count_is) (outcome_dated dates repeat count number line lines date e)
 
 -- a fault comes where a line has a cause
-pub cause_comes : (error : ReadError) (dates : List ℤ) (repeat : Option ℕ) (count number : ℕ) (line : List ℕ) (cause : LeapCause) → error ≡ errors.Fault (fault_at number cause) → line_says number count line ≡ Err cause → (lines : List (List ℕ)) → Comes error (leap_outcome dates repeat count number (line ∷ lines))
+pub cause_comes : (error : ReadError) (dates : List ℤ) (repeat : Option ℕ) (count number : ℕ) (line : List ℕ) (cause : Cause) → error ≡ errors.Fault (fault_at number cause) → line_says number count line ≡ Err cause → (lines : List (List ℕ)) → Comes error (leap_outcome dates repeat count number (line ∷ lines))
 cause_comes error dates repeat count number line cause is e lines =
     rw is (outcome_refused dates repeat count number line lines cause e)
 
@@ -59,13 +60,13 @@ unfolding leap_outcome
 outcome_end dates repeat count number = refl
 
 -- the records of a line and those after it, by what the line says
-abbrev step_of : ℕ → ℕ → List (List ℕ) → Result (Option ℤ) LeapCause → Result (List LeapRecord) Fault
+abbrev step_of : ℕ → ℕ → List (List ℕ) → Result (Option ℤ) Cause → Result (List LeapRecord) Fault
 step_of number count lines (Ok None) = leap_records_from (number + 1) count lines
 step_of number count lines (Ok (Some date)) =
     before_rest (record { line = number; date = date }) (leap_records_from (number + 1) (count + 1) lines)
 step_of number count lines (Err cause) = Err (fault_at number cause)
 
-by_said : (number count : ℕ) (lines : List (List ℕ)) (said : Result (Option ℤ) LeapCause) → elim said [ Ok told ↦ elim told [ None ↦ leap_records_from (number + 1) count lines | Some date ↦ before_rest (record { line = number; date = date }) (leap_records_from (number + 1) (count + 1) lines) ] | Err cause ↦ Err (fault_at number cause) ] ≡ step_of number count lines said
+by_said : (number count : ℕ) (lines : List (List ℕ)) (said : Result (Option ℤ) Cause) → elim said [ Ok told ↦ elim told [ None ↦ leap_records_from (number + 1) count lines | Some date ↦ before_rest (record { line = number; date = date }) (leap_records_from (number + 1) (count + 1) lines) ] | Err cause ↦ Err (fault_at number cause) ] ≡ step_of number count lines said
 by_said number count lines (Ok None) = refl
 by_said number count lines (Ok (Some date)) = refl
 by_said number count lines (Err cause) = refl
@@ -90,7 +91,7 @@ still_first first line date dates = by_test (is_among date dates)
     by_test true = refl
     by_test false = refl
 
-repeated_by : (dates : List ℤ) (first count number : ℕ) (lines : List (List ℕ)) (said : Result (Option ℤ) LeapCause) → leap_outcome dates (Some first) count (number + 1) lines ≡ refused_at first (leap_records_from (number + 1) count lines) → ((date : ℤ) → leap_outcome (with_date date dates) (Some first) (count + 1) (number + 1) lines ≡ refused_at first (leap_records_from (number + 1) (count + 1) lines)) → outcome_by dates (Some first) count number lines said ≡ refused_at first (step_of number count lines said)
+repeated_by : (dates : List ℤ) (first count number : ℕ) (lines : List (List ℕ)) (said : Result (Option ℤ) Cause) → leap_outcome dates (Some first) count (number + 1) lines ≡ refused_at first (leap_records_from (number + 1) count lines) → ((date : ℤ) → leap_outcome (with_date date dates) (Some first) (count + 1) (number + 1) lines ≡ refused_at first (leap_records_from (number + 1) (count + 1) lines)) → outcome_by dates (Some first) count number lines said ≡ refused_at first (step_of number count lines said)
 repeated_by dates first count number lines (Ok None) blank dated = blank
 repeated_by dates first count number lines (Ok (Some date)) blank dated =
     ap (λ repeat. leap_outcome (with_date date dates) repeat (count + 1) (number + 1) lines) (still_first first number date dates) ∙ dated date ∙ sym (refused_before first (record { line = number; date = date }) (leap_records_from (number + 1) (count + 1) lines))
@@ -177,7 +178,7 @@ agrees_new seen dates count number lines date same e next =
     let new : is_among date seen ≡ false = list_any-IsPermutation (λ other. int_eq other date) seen dates same ∙ e in
     rw (repeat_new number date dates e) (new_date seen number date (leap_outcome (with_date date dates) None (count + 1) (number + 1) lines) (leap_records_from (number + 1) (count + 1) lines) new (next (permutes_with seen dates date same e)))
 
-agrees_by : (seen dates : List ℤ) (count number : ℕ) (lines : List (List ℕ)) (said : Result (Option ℤ) LeapCause) → IsPermutation seen dates → Agrees seen (leap_outcome dates None count (number + 1) lines) (dates_of seen (leap_records_from (number + 1) count lines)) → ((date : ℤ) → IsPermutation (date ∷ seen) (with_date date dates) → Agrees (date ∷ seen) (leap_outcome (with_date date dates) None (count + 1) (number + 1) lines) (dates_of (date ∷ seen) (leap_records_from (number + 1) (count + 1) lines))) → Agrees seen (outcome_by dates None count number lines said) (dates_of seen (step_of number count lines said))
+agrees_by : (seen dates : List ℤ) (count number : ℕ) (lines : List (List ℕ)) (said : Result (Option ℤ) Cause) → IsPermutation seen dates → Agrees seen (leap_outcome dates None count (number + 1) lines) (dates_of seen (leap_records_from (number + 1) count lines)) → ((date : ℤ) → IsPermutation (date ∷ seen) (with_date date dates) → Agrees (date ∷ seen) (leap_outcome (with_date date dates) None (count + 1) (number + 1) lines) (dates_of (date ∷ seen) (leap_records_from (number + 1) (count + 1) lines))) → Agrees seen (outcome_by dates None count number lines said) (dates_of seen (step_of number count lines said))
 agrees_by seen dates count number lines (Ok None) same blank dated = blank
 agrees_by seen dates count number lines (Ok (Some date)) same blank dated =
     ⊎_elim (λ (e : is_among date dates ≡ true). agrees_old seen dates count number lines date same e) (λ (e : is_among date dates ≡ false). agrees_new seen dates count number lines date same e (dated date)) (cases_Bool (is_among date dates))

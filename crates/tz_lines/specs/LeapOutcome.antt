@@ -5,17 +5,18 @@ use Rattle.tz_types.specs.Limit.{most_leaps}
 use Rattle.tz_types.specs.declared.fault.Fault.{Fault}
 use Rattle.tz_lines.specs.declared.error.ReadError.{ReadError}
 use Rattle.tz_lines.specs.declared.error.ReadError.TheVariants as errors
-use Rattle.tz_lines.specs.declared.leap_cause.LeapCause.{LeapCause}
-use Rattle.tz_lines.specs.declared.leap_cause.LeapCause.TheVariants as causes
-use Rattle.tz_lines.specs.LeapText.{least_cause, leap_date, field_causes, exceeds_limit, unless_cause, line_says, fault_at, is_among, unless_repeat}
+use Rattle.tz_types.specs.declared.cause.Cause.{Cause}
+use Rattle.tz_types.specs.declared.cause.Cause.TheVariants as causes
+use Rattle.tz_specs.specs.Causes.{least_cause, unless_cause, fault_at}
+use Rattle.tz_lines.specs.LeapText.{leap_date, field_causes, exceeds_limit, line_says, is_among, unless_repeat}
 
 -- the least cause, or else the date where there is no cause
-abbrev pub Says : List (LeapCause × Bool) → Option ℤ → Result ℤ LeapCause → Type 0
+abbrev pub Says : List (Cause × Bool) → Option ℤ → Result ℤ Cause → Type 0
 Says rows date (Ok told) = (least_cause rows ≡ None) × (date ≡ Some told)
 Says rows date (Err cause) = least_cause rows ≡ Some cause
 
 -- what the fields of a line say, by its number and by how many records stand before it
-abbrev pub fields_say : ℕ → ℕ → List (List ℕ) → Result (Option ℤ) LeapCause
+abbrev pub fields_say : ℕ → ℕ → List (List ℕ) → Result (Option ℤ) Cause
 fields_say number earlier fields =
     unless_cause (least_cause (field_causes fields ++ (causes.Limit, exceeds_limit number earlier fields) ∷ [])) (leap_date fields)
 
@@ -23,7 +24,7 @@ fields_say number earlier fields =
 abbrev pub is_too_many : ℕ → ℕ → Bool
 is_too_many number earlier = nat_lt 100_000 number || nat_le most_leaps earlier
 
-abbrev pub unless_too_many : Bool → ℤ → Result (Option ℤ) LeapCause
+abbrev pub unless_too_many : Bool → ℤ → Result (Option ℤ) Cause
 unless_too_many true date = Err causes.Limit
 unless_too_many false date = Ok (Some date)
 

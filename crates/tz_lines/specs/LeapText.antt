@@ -1,50 +1,26 @@
 -- Leap texts, after zic(8), "Leap lines": each line is blank, or a record `Leap YEAR MONTH DAY 23:59:60 + S`. It says
 -- that a second is inserted at the end of that day. Its leap date is the midnight that follows.
-use Rattle.std.specs.Prelude.{ℕ, ◌+◌, nat_le, nat_lt, nat_eq, Bool, true, false, not, ◌==◌, ◌&&◌, ◌||◌, if◌then◌else◌, List, [], ◌∷◌, ◌++◌, length, codes, slice_get, slice_index_or, ◌≡◌, ℤ, pos, ◌+ℤ◌, ◌*ℤ◌, unsigned_abs, Option, Some, None, Result, Ok, Err, map}
+use Rattle.std.specs.Prelude.{ℕ, ◌+◌, nat_le, nat_lt, nat_eq, Bool, true, false, not, ◌==◌, ◌&&◌, ◌||◌, if◌then◌else◌, List, [], ◌∷◌, ◌++◌, length, codes, ◌≡◌, ℤ, pos, ◌+ℤ◌, ◌*ℤ◌, Option, Some, None, Result, Ok, Err, map}
 use Rattle.std.specs.Option.{is_none}
 use Rattle.std.specs.Ordering.{int_eq}
 use Rattle.std.specs.List.{list_any}
 use Rattle.std.specs.List.Sorted.{IsPermutation}
-use Rattle.std.specs.Cmp.Lexicographic.{pointwise}
 use Rattle.jiff_core.specs.Calendar.{days_from_civil, days_in_month}
 use Rattle.tz_types.specs.Calendar.{month_number, is_day_up_to}
 use Rattle.tz_types.specs.Limit.{most_leaps}
 use Rattle.tz_types.specs.declared.calendar.Month.{Month}
-use Rattle.tz_types.specs.declared.calendar.Month.TheVariants as months
+use Rattle.tz_types.specs.declared.cause.Cause.{Cause}
+use Rattle.tz_types.specs.declared.cause.Cause.TheVariants as causes
 use Rattle.tz_types.specs.declared.fault.Fault.{Fault}
 use Rattle.tz_types.specs.declared.leap_dates.Leaps.{Leaps}
 use Rattle.tz_specs.specs.Line.{lines_of, line_length}
 use Rattle.tz_specs.specs.Field.{fields_of}
 use Rattle.tz_specs.specs.Choice.{◌>>=◌, only_if}
-use Rattle.tz_specs.specs.Number.{year_of}
 use Rattle.tz_specs.specs.Day.{day_number_of}
 use Rattle.tz_specs.specs.Word.{named_entry}
-use Rattle.tz_lines.specs.declared.leap_cause.LeapCause.{LeapCause}
-use Rattle.tz_lines.specs.declared.leap_cause.LeapCause.TheVariants as causes
-
--- the number by which a cause is told
-abbrev pub cause_number : LeapCause → ℕ
-cause_number causes.LongLine = 1
-cause_number causes.Nul = 2
-cause_number causes.OpenQuote = 3
-cause_number causes.Keyword = 4
-cause_number causes.FieldCount = 5
-cause_number causes.Year = 6
-cause_number causes.Month = 9
-cause_number causes.Day = 10
-cause_number causes.Time = 11
-cause_number causes.Corr = 16
-cause_number causes.Rolling = 17
-cause_number causes.Limit = 18
-cause_number causes.LeapRepeat = 24
-
--- the field with that place, from 0
-abbrev pub field_at : ℕ → List (List ℕ) → List ℕ
-field_at place fields = slice_index_or fields place []
-
--- the field has exactly these bytes
-abbrev pub is_exactly : List ℕ → List ℕ → Bool
-is_exactly field bytes = pointwise nat_eq field bytes
+use Rattle.tz_specs.specs.Causes.{least_cause, unless_cause, fault_at}
+use Rattle.tz_specs.specs.Value.{field_at, is_exactly, month_named, rule_year_of}
+use Rattle.tz_specs.specs.Contents.{fields_or_none}
 
 -- the first field of a record names this keyword
 abbrev pub leap_keyword : List ℕ
@@ -70,22 +46,6 @@ is_first_place (Some place) = nat_eq place 0
 abbrev pub is_stationary : List ℕ → Bool
 is_stationary word = is_first_place (named_entry word kind_table)
 
-abbrev pub month_table : List ℕ
-month_table =
-    codes "January February March April May June July August September October November December"
-
-abbrev pub all_months : List Month
-all_months =
-    months.January ∷ months.February ∷ months.March ∷ months.April ∷ months.May ∷ months.June ∷ months.July ∷ months.August ∷ months.September ∷ months.October ∷ months.November ∷ months.December ∷ []
-
--- the month that the word names
-unfoldable pub month_named : List ℕ → Option Month
-month_named word = named_entry word month_table >>= λ place. slice_get all_months place
-
--- a year from -9998 to 9998
-abbrev pub leap_year_of : List ℕ → Option ℤ
-leap_year_of field = year_of field >>= λ year. only_if (nat_le (unsigned_abs year) 9998) year
-
 -- a plain day number of one or two digits, from 1 to the length of that month in that year
 abbrev pub leap_day_of : ℤ → Month → List ℕ → Option ℕ
 leap_day_of year month field =
@@ -98,20 +58,15 @@ midnight_after year month day = pos 86_400 *ℤ (days_from_civil year (month_num
 -- the leap date of a record, by its year, its month and its day
 unfoldable pub leap_date : List (List ℕ) → Option ℤ
 leap_date fields = do
-  year ← leap_year_of (field_at 1 fields)
+  year ← rule_year_of (field_at 1 fields)
   month ← month_named (field_at 2 fields)
   day ← leap_day_of year month (field_at 3 fields)
   Some (midnight_after year month day)
 
--- A list of causes is in rising order, each with whether it holds. The least that holds is told.
-abbrev pub least_cause : List (LeapCause × Bool) → Option LeapCause
-least_cause [] = None
-least_cause (row ∷ rows) = if row.1 then Some row.0 else least_cause rows
-
 -- The causes of a record's values. A record without a year or a month has no day either.
-unfoldable pub value_causes : List (List ℕ) → List (LeapCause × Bool)
+unfoldable pub value_causes : List (List ℕ) → List (Cause × Bool)
 value_causes fields =
-    (causes.Year, is_none (leap_year_of (field_at 1 fields)))
+    (causes.Year, is_none (rule_year_of (field_at 1 fields)))
     ∷ (causes.Month, is_none (month_named (field_at 2 fields)))
     ∷ (causes.Day, is_none (leap_date fields))
     ∷ (causes.Time, not (is_exactly (field_at 4 fields) inserted_time))
@@ -120,17 +75,12 @@ value_causes fields =
     ∷ []
 
 -- the causes of a record's fields; a blank line has none
-unfoldable pub field_causes : List (List ℕ) → List (LeapCause × Bool)
+unfoldable pub field_causes : List (List ℕ) → List (Cause × Bool)
 field_causes [] = []
 field_causes (keyword ∷ fields) =
     (causes.Keyword, is_none (named_entry keyword leap_keyword))
     ∷ (causes.FieldCount, not (nat_eq (length (keyword ∷ fields)) 7))
     ∷ value_causes (keyword ∷ fields)
-
--- the fields of a line; one that leaves a quote open has none
-abbrev pub fields_or_none : Option (List (List ℕ)) → List (List ℕ)
-fields_or_none None = []
-fields_or_none (Some fields) = fields
 
 abbrev pub is_record : List (List ℕ) → Bool
 is_record [] = false
@@ -141,7 +91,7 @@ abbrev pub exceeds_limit : ℕ → ℕ → List (List ℕ) → Bool
 exceeds_limit number earlier fields = nat_lt 100_000 number || (is_record fields && nat_le most_leaps earlier)
 
 -- the causes of a line, by its number and by how many records stand before it
-abbrev pub leap_causes : ℕ → ℕ → List ℕ → List (LeapCause × Bool)
+abbrev pub leap_causes : ℕ → ℕ → List ℕ → List (Cause × Bool)
 leap_causes number earlier line =
     (causes.LongLine, nat_lt 2_048 (line_length line))
     ∷ (causes.Nul, list_any (λ byte. byte == 0) line)
@@ -149,19 +99,10 @@ leap_causes number earlier line =
     ∷ (field_causes (fields_or_none (fields_of line))
     ++ (causes.Limit, exceeds_limit number earlier (fields_or_none (fields_of line))) ∷ [])
 
--- the cause, where there is one
-abbrev pub unless_cause : {A : Type 0} → Option LeapCause → A → Result A LeapCause
-unless_cause None x = Ok x
-unless_cause (Some cause) x = Err cause
-
 -- the least cause of a line, or else the leap date of its record; a blank line has no date
-unfoldable pub line_says : ℕ → ℕ → List ℕ → Result (Option ℤ) LeapCause
+unfoldable pub line_says : ℕ → ℕ → List ℕ → Result (Option ℤ) Cause
 line_says number earlier line =
     unless_cause (least_cause (leap_causes number earlier line)) (leap_date (fields_or_none (fields_of line)))
-
--- why a text is refused, and at which line
-abbrev pub fault_at : ℕ → LeapCause → Fault
-fault_at number cause = record { line = number; cause = cause_number cause }
 
 -- a record, by its line and its leap date
 pub record LeapRecord : Type 0 where
@@ -198,11 +139,12 @@ first_repeat dates [] = None
 first_repeat dates (entry ∷ later) =
     if is_among entry.date dates then Some entry.line else first_repeat (entry.date ∷ dates) later
 
--- the dates of records that repeat none of these dates and none of their own
+-- the dates, where no line repeats one
 abbrev pub unless_repeat : Option ℕ → List ℤ → Result (List ℤ) Fault
 unless_repeat None dates = Ok dates
 unless_repeat (Some line) dates = Err (fault_at line causes.LeapRepeat)
 
+-- the dates of records that repeat none of the earlier dates and none of their own
 abbrev pub dates_of : List ℤ → Result (List LeapRecord) Fault → Result (List ℤ) Fault
 dates_of earlier (Ok records) = unless_repeat (first_repeat earlier records) (map (λ entry. entry.date) records)
 dates_of earlier (Err fault) = Err fault

@@ -1,98 +1,42 @@
-ghost use Rattle.std.specs.Prelude.{◌≡◌, ◌≤◌, [], List, Some, None, length, map, IsTrue, IfOk, IfErr, IfSome, ◌<ℤ◌};
-ghost use Rattle.std.specs.List.{list_all};
-ghost use Rattle.tz_types.specs.Order.{ascends, name_before};
-ghost use Rattle.tz_types.specs.declared.rule_set.RuleSet.{RuleSet};
-ghost use Rattle.tz_specs.specs.Expansion.{first_instant, end_of_time, periods_from};
-ghost use Rattle.tz_specs.specs.Sound.{leads, is_sound};
-ghost use Rattle.tz_specs.specs.Record.{is_plain, is_plain_zone, written_line, written_zone, written_finish, ends_rise, Reads, IsUnbuilt};
-ghost use Rattle.tz_lines.specs.Outcome.{built_after};
-ghost use Rattle.tz_lines.specs.Begun.{written_begun, IsPlainBegun};
-ghost use Rattle.tz_lines.specs.Refusal.{MeansFault};
+//! The database of a whole text, or its least fault.
+ghost use Rattle.std.specs.Prelude.{◌≡◌, IsTrue, IfOk, IfErr};
+ghost use Rattle.tz_lines.specs.Gathered.{contents_gathered};
+ghost use Rattle.tz_lines.specs.Built.{IsBuiltOf, MeansWholeFault};
+ghost use Rattle.tz_lines.specs.LineOrder.{begin_in_order};
 
 use crate::ReadError;
-use crate::reading::take_lines;
+use crate::contents::Gathered;
+use crate::least_fault::least_fault;
+use crate::plain_zones::plain_zones;
 use std::alloc::Global;
-use tz_rules::until_instant;
-use tz_types::{Db, FIRST_INSTANT, Items, VersionText, Zone, ZoneLine};
+use std::sync::Arc;
+use tz_types::{Db, Items, NoMemory, RuleSet, Shared, VersionText};
 
-/// When a line without rules ends, where it has an UNTIL.
-#[tactic(auto, unfolding(tz_specs::specs::Until::until_instant))]
-fn finish(line: &ZoneLine) -> Option<i64>
-    requires { IsTrue (is_plain line.now) }
-    ensures value { result ≡ written_finish (written_line line.now) }
-    ensures bound { IfSome result (λ end. end <ℤ end_of_time) }
+fn shared_sets(alloc: Global, sets: Items<RuleSet>) -> Result<Items<Shared<RuleSet>>, NoMemory>
+    ensures { IfOk result (λ shared. shared ≡ sets) }
 {
-    match &line.until {
-        None => None,
-        Some(until) => Some(until_instant(None, 0, line.stdoff, until)),
+    let mut shared = Items::new(alloc);
+    for set in sets.into_vec() {
+        shared.push(Shared::from_arc(Arc::new(alloc, set)?))?;
     }
+    Ok(shared)
 }
 
-/// Whether each line but the last ends, after it starts, and the last has no end.
-fn rise(lines: &[ZoneLine]) -> bool
-    requires { IsTrue (list_all is_plain lines.now) }
-    ensures value { result ≡ ends_rise first_instant (map written_line lines.now) }
-    ensures leads { IsTrue result → (sets : List RuleSet) → IsTrue (leads first_instant end_of_time (periods_from sets first_instant lines.now)) }
+/// The database of what the lines of a text gave, whose zones begin on later and later lines. A fault comes exactly
+/// where the contents as a whole have one, and is the least.
+pub fn build(alloc: Global, gathered: Gathered, version: VersionText) -> Result<Db, ReadError>
+    requires { IsTrue (begin_in_order (contents_gathered gathered)) }
+    ensures ok { IfOk result (λ db. IsBuiltOf (contents_gathered gathered) version db) }
+    ensures err { IfErr result (λ e. MeansWholeFault e (contents_gathered gathered)) }
 {
-    let mut start = FIRST_INSTANT;
-    for (index, line) in lines.iter().enumerate() {
-        match finish(line) {
-            None => return index + 1 == lines.len(),
-            Some(end) => {
-                if start >= end {
-                    return false;
-                }
-                start = end;
-            }
-        }
+    if let Some(fault) = least_fault(alloc, &gathered)? {
+        return Err(ReadError::Fault(fault));
     }
-    false
-}
-
-/// The zones of a text, where the one that was begun is built.
-fn built(alloc: Global, begun: Option<Zone>) -> Result<Items<Zone>, ReadError>
-    requires { IsPlainBegun begun }
-    ensures ok { IfOk result (λ zones. built_after (written_begun begun) [] ≡ Some (map written_zone zones)) }
-    ensures plain { IfOk result (λ zones. IsTrue (list_all is_plain_zone zones)) }
-    ensures one { IfOk result (λ zones. length zones ≤ 1) }
-    ensures ascend { IfOk result (λ zones. IsTrue (ascends name_before (map (λ zone. zone.name) zones))) }
-    ensures lead { IfOk result (λ zones. (sets : List RuleSet) →
-        IsTrue (list_all (λ zone. leads first_instant end_of_time (periods_from sets first_instant zone.lines)) zones)) }
-    ensures err { IfErr result (λ e. MeansFault e (built_after (written_begun begun) [] ≡ None)) }
-{
-    let mut zones = Items::new(alloc);
-    let Some(zone) = begun else {
-        return Ok(zones);
-    };
-    if zone.lines.len() > 255 || !rise(zone.lines.as_slice()) {
-        return Err(ReadError::UNBUILT);
-    }
-    zones.push(zone)?;
-    Ok(zones)
-}
-
-/// Reads a text of at most 4,194,304 bytes whole. A text that isn't built yet is refused with line 1 and cause 0.
-pub fn read_zones(alloc: Global, text: &[u8]) -> Result<Db, ReadError>
-    requires { length text.now ≤ 4_194_304 }
-    ensures ok { IfOk result (λ db. Reads text.now db) }
-    ensures sound { IfOk result (λ db. IsTrue (is_sound db)) }
-    ensures refused { IfErr result (λ e. MeansFault e (IsUnbuilt text.now)) }
-{
-    let begun = match take_lines(alloc, text) {
-        Ok(begun) => begun,
-        Err(error) => return Err(error),
-    };
-    let zones = match built(alloc, begun) {
-        Ok(zones) => zones,
-        Err(error) => return Err(error),
-    };
-    let Ok(version) = VersionText::new(b"unknown") else {
-        unreachable!()
-    };
+    let Gathered { sets, zones, .. } = gathered;
     Ok(Db {
         version,
-        sets: Items::new(alloc),
-        zones,
+        sets: shared_sets(alloc, sets)?,
+        zones: plain_zones(alloc, zones)?,
         links: Items::new(alloc),
     })
 }

@@ -12,11 +12,6 @@ pub enum ReadError {
     Fault(Fault),
 }
 
-impl ReadError {
-    /// A text that isn't built yet.
-    pub const UNBUILT: ReadError = ReadError::Fault(Fault { line: 1, cause: 0 });
-}
-
 impl fmt::Display for ReadError {
     fn fmt<W: fmt::Write>(&self, f: &mut fmt::Formatter<W>) -> fmt::Result {
         match self {

@@ -2,42 +2,38 @@ ghost use Rattle.std.specs.Prelude.{◌≡◌, ℕ, ◌<◌, [], List, is_some, 
 ghost use Rattle.tz_types.specs.Limit.{most_leaps};
 ghost use Rattle.tz_specs.specs.Word.{named_entry};
 ghost use Rattle.tz_text.specs.Kept.{kept_of};
-ghost use Rattle.tz_lines.specs.LeapText.{is_exactly, leap_keyword, value_causes, field_causes, leap_date, line_says};
+ghost use Rattle.tz_specs.specs.Value.{is_exactly};
+ghost use Rattle.tz_lines.specs.LeapText.{leap_keyword, value_causes, field_causes, leap_date, line_says};
 ghost use Rattle.tz_lines.specs.LeapOutcome.{Says, fields_say, is_too_many, unless_too_many};
 
-use crate::leap_cause::LeapCause;
-use crate::leap_values::{has_nul, is_stationary, leap_day, leap_year, midnight_after, month};
+use crate::leap_values::{is_stationary, leap_day, midnight_after};
+use crate::values::{has_nul, is_exactly, month, rule_year};
 use tz_text::{Fields, Joined, named};
-
-fn is_exactly(field: &[u8], bytes: &[u8]) -> bool
-    ensures { result ≡ is_exactly field.now bytes.now }
-{
-    field == bytes
-}
+use tz_types::Cause;
 
 /// The leap date of a record of seven fields, or the least cause of its values.
 #[tactic(auto, unfolding(crate::specs::LeapText::value_causes, crate::specs::LeapText::leap_date))]
-fn date_of_values(fields: &Fields<'_>) -> Result<i64, LeapCause>
+fn date_of_values(fields: &Fields<'_>) -> Result<i64, Cause>
     requires { fields.now.count ≡ 7 }
     ensures { Says (value_causes fields.now.first) (leap_date fields.now.first) result }
 {
-    let Some(year) = leap_year(fields.get(1)) else {
-        return Err(LeapCause::Year);
+    let Some(year) = rule_year(fields.get(1)) else {
+        return Err(Cause::Year);
     };
     let Some(month) = month(fields.get(2)) else {
-        return Err(LeapCause::Month);
+        return Err(Cause::Month);
     };
     let Some(day) = leap_day(year, month, fields.get(3)) else {
-        return Err(LeapCause::Day);
+        return Err(Cause::Day);
     };
     if !is_exactly(fields.get(4), b"23:59:60") {
-        return Err(LeapCause::Time);
+        return Err(Cause::Time);
     }
     if !is_exactly(fields.get(5), b"+") {
-        return Err(LeapCause::Corr);
+        return Err(Cause::Corr);
     }
     if !is_stationary(fields.get(6)) {
-        return Err(LeapCause::Rolling);
+        return Err(Cause::Rolling);
     }
     Ok(midnight_after(year, month, day))
 }
@@ -51,15 +47,15 @@ fn is_keyword(word: &[u8]) -> bool
 
 /// The leap date of a record, or the least cause of its fields.
 #[tactic(auto, using(crate::proofs::LeapLines::keyword_missing, crate::proofs::LeapLines::other_count, crate::proofs::LeapLines::seven_fields))]
-fn date_of_record(fields: &Fields<'_>) -> Result<i64, LeapCause>
+fn date_of_record(fields: &Fields<'_>) -> Result<i64, Cause>
     requires { 0 < fields.now.count }
     ensures { (all : List (List ℕ)) → kept_of all ≡ fields.now → Says (field_causes all) (leap_date all) result }
 {
     if !is_keyword(fields.get(0)) {
-        return Err(LeapCause::Keyword);
+        return Err(Cause::Keyword);
     }
     if fields.count() != 7 {
-        return Err(LeapCause::FieldCount);
+        return Err(Cause::FieldCount);
     }
     date_of_values(fields)
 }
@@ -72,30 +68,30 @@ fn is_too_many(number: u32, earlier: u32) -> bool
 }
 
 /// The date of a record, unless that is one too many.
-fn unless_too_many(date: i64, number: u32, earlier: u32) -> Result<Option<i64>, LeapCause>
+fn unless_too_many(date: i64, number: u32, earlier: u32) -> Result<Option<i64>, Cause>
     ensures value { result ≡ unless_too_many (is_too_many number earlier) date }
     ensures few { IsOk result → earlier < most_leaps }
 {
     if is_too_many(number, earlier) {
-        return Err(LeapCause::Limit);
+        return Err(Cause::Limit);
     }
     Ok(Some(date))
 }
 
 /// What a line without fields says.
 #[tactic(auto, using(crate::proofs::LeapLines::blank_late, crate::proofs::LeapLines::blank_said))]
-fn blank_line(number: u32) -> Result<Option<i64>, LeapCause>
+fn blank_line(number: u32) -> Result<Option<i64>, Cause>
     ensures value { (earlier : ℕ) → result ≡ fields_say number earlier [] }
     ensures none { IfOk result IsNone }
 {
     if number > 100_000 {
-        return Err(LeapCause::Limit);
+        return Err(Cause::Limit);
     }
     Ok(None)
 }
 
 /// What the fields of a line say.
-fn date_of_fields(fields: &Fields<'_>, number: u32, earlier: u32) -> Result<Option<i64>, LeapCause>
+fn date_of_fields(fields: &Fields<'_>, number: u32, earlier: u32) -> Result<Option<i64>, Cause>
     ensures value { (all : List (List ℕ)) → kept_of all ≡ fields.now → result ≡ fields_say number earlier all }
     ensures few { IfOk result (λ date. IsSome date → earlier < most_leaps) }
 {
@@ -115,18 +111,18 @@ pub fn read_line(
     joined: &mut Joined,
     number: u32,
     earlier: u32,
-) -> Result<Option<i64>, LeapCause>
+) -> Result<Option<i64>, Cause>
     ensures value { result ≡ line_says number earlier line.now }
     ensures few { IfOk result (λ date. IsSome date → earlier < most_leaps) }
 {
     if line.len() + 1 > 2_048 {
-        return Err(LeapCause::LongLine);
+        return Err(Cause::LongLine);
     }
     if has_nul(line) {
-        return Err(LeapCause::Nul);
+        return Err(Cause::Nul);
     }
     let Ok(fields) = Fields::cut(line, joined) else {
-        return Err(LeapCause::OpenQuote);
+        return Err(Cause::OpenQuote);
     };
     date_of_fields(&fields, number, earlier)
 }

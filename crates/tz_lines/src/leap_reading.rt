@@ -2,21 +2,21 @@ ghost use Rattle.std.specs.Prelude.{◌≡◌, ℕ, ◌+◌, ◌≤◌, [], ◌�
 ghost use Rattle.tz_types.specs.Order.{ascends};
 ghost use Rattle.tz_types.specs.Limit.{most_leaps};
 ghost use Rattle.tz_specs.specs.Line.{lines_of};
-ghost use Rattle.tz_lines.specs.LeapText.{fault_at, unless_repeat, ReadsLeaps};
+ghost use Rattle.tz_specs.specs.Causes.{fault_at};
+ghost use Rattle.tz_lines.specs.LeapText.{unless_repeat, ReadsLeaps};
 ghost use Rattle.tz_lines.specs.LeapOutcome.{leap_outcome, Comes};
 ghost use Rattle.tz_lines.specs.LeapRefusal.{MeansRefusal};
 
 use crate::ReadError;
 use crate::cutting::next_line;
-use crate::leap_cause::LeapCause;
 use crate::leap_gathered::Gathered;
 use crate::leap_line::read_line;
 use std::alloc::Global;
 use tz_text::Joined;
-use tz_types::{Fault, Items, Leaps};
+use tz_types::{Cause, Fault, Items, Leaps};
 
 /// Why the text is refused at a line.
-fn fault(line: u32, cause: LeapCause) -> ReadError
+fn fault(line: u32, cause: Cause) -> ReadError
     ensures { result ≡ ReadError.Fault (fault_at line cause) }
 {
     ReadError::Fault(Fault {
@@ -93,7 +93,7 @@ pub fn read_leaps(alloc: Global, text: &[u8]) -> Result<Leaps, ReadError>
         Err(error) => return Err(error),
     };
     if let Some(line) = gathered.repeat {
-        return Err(fault(line, LeapCause::LeapRepeat));
+        return Err(fault(line, Cause::LeapRepeat));
     }
     Ok(Leaps {
         dates: Items::from_vec(gathered.dates),

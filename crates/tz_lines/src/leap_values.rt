@@ -5,50 +5,13 @@ ghost use Rattle.tz_types.specs.Calendar.{has_day};
 ghost use Rattle.tz_types.specs.declared.calendar.On.TheVariants.{Day};
 ghost use Rattle.tz_specs.specs.Day.{day_number_of};
 ghost use Rattle.tz_lines.specs.PlainDay.{number_alone};
-ghost use Rattle.tz_lines.specs.LeapText.{leap_year_of, month_named, leap_day_of, midnight_after, is_stationary};
+ghost use Rattle.tz_specs.specs.Value.{rule_year_of, month_named};
+ghost use Rattle.tz_lines.specs.LeapText.{leap_day_of, midnight_after, is_stationary};
 
-use tz_text::{named, on, year};
+use tz_text::{named, on};
 use tz_types::{Month, On, day_of, has_day};
 
-const MONTHS: &[u8] =
-    b"January February March April May June July August September October November December";
-
 const KINDS: &[u8] = b"Stationary Rolling";
-
-/// A year from -9998 to 9998.
-pub fn leap_year(field: &[u8]) -> Option<i32>
-    ensures value { result ≡ leap_year_of field.now }
-    ensures bound { IfSome result IsRuleYear }
-{
-    let year = year(field)?;
-    if year.unsigned_abs() <= 9_998 {
-        Some(year)
-    } else {
-        None
-    }
-}
-
-/// The month that the word names.
-#[tactic(auto, unfolding(crate::specs::LeapText::month_named))]
-pub fn month(word: &[u8]) -> Option<Month>
-    ensures { result ≡ month_named word.now }
-{
-    match named(word, MONTHS)? {
-        0 => Some(Month::January),
-        1 => Some(Month::February),
-        2 => Some(Month::March),
-        3 => Some(Month::April),
-        4 => Some(Month::May),
-        5 => Some(Month::June),
-        6 => Some(Month::July),
-        7 => Some(Month::August),
-        8 => Some(Month::September),
-        9 => Some(Month::October),
-        10 => Some(Month::November),
-        11 => Some(Month::December),
-        _ => None,
-    }
-}
 
 /// The day number, where the day is that alone.
 fn number_alone(on: Option<On>) -> Option<u8>
@@ -100,11 +63,4 @@ pub fn is_stationary(word: &[u8]) -> bool
         Some(place) => place == 0,
         None => false,
     }
-}
-
-/// Whether the line has a NUL byte.
-pub fn has_nul(line: &[u8]) -> bool
-    ensures { result ≡ list_any (λ byte. byte == 0) line.now }
-{
-    line.iter().any(|byte| *byte == 0)
 }

@@ -1,27 +1,48 @@
 //! Texts to databases.
 //!
 //! `read_zones` reads a text whole, or refuses it; `locate` finds a zone by its name. So far a text is built
-//! that has one zone at most, no quotes and no comments, plain formats and no rules; any other is refused
-//! with line 1 and cause 0. `read_leaps` reads a leap text whole, or refuses it with the line and the cause.
+//! that has no links, plain formats and no rules in the lines of its zones; any other is refused with cause 0, unless
+//! one of its lines has a cause. `read_leaps` reads a leap text whole, or refuses it with the line and the cause.
 #![tactic(auto)]
 
+mod adding;
 mod building;
+mod contents;
 mod cutting;
+mod doubled;
 mod entry;
 mod error;
-mod leap_cause;
+mod faults;
+mod format_field;
+mod gathering;
+mod kind;
+mod last_zone;
+mod late;
 mod leap_gathered;
 mod leap_line;
 mod leap_reading;
 mod leap_values;
+mod least_fault;
+mod limits;
+mod line;
+mod link_line;
 mod locating;
+mod plain_zones;
 mod reading;
+mod record_line;
+mod recurrence;
+mod rule_line;
+mod rule_sets;
+mod rules_field;
+mod telling;
 mod values;
+mod version;
+mod zone_line;
 
-pub use building::read_zones;
 pub use error::ReadError;
 pub use leap_reading::read_leaps;
 pub use locating::locate;
+pub use reading::read_zones;
 
 #[cfg(test)]
 mod leap_tests;

@@ -1,159 +1,40 @@
-ghost use Rattle.std.specs.Prelude.{◌≡◌, ℕ, ◌+◌, ◌<◌, ◌≤◌, ◌⊎◌, [], ◌∷◌, ◌++◌, not, is_some, IsSome, IsNone, List, None, Some, length, IsTrue, IfOk, IfErr, OnOk, IfSome, MatchOption, option_map, map};
-ghost use Rattle.std.specs.List.{list_all};
-ghost use Rattle.tz_specs.specs.Line.{lines_of};
+ghost use Rattle.std.specs.Prelude.{◌≡◌, ◌≤◌, length, IsTrue, IfOk, IfErr};
 ghost use Rattle.tz_specs.specs.Sound.{is_sound};
-ghost use Rattle.tz_specs.specs.Record.{Record, is_plain, is_plain_zone, written_line, written_zone, built_fields_of, has_none, record_of, zones_written, Reads, IsUnbuilt};
-ghost use Rattle.tz_lines.specs.Written.{written_entry};
-ghost use Rattle.tz_lines.specs.Outcome.{reading_of, wants_line, last_wants, built_after, outcome};
-ghost use Rattle.tz_types.specs.Limit.{most_lines};
-ghost use Rattle.tz_lines.specs.Begun.{written_begun, Adds, Exceeds, IsPlainBegun};
-ghost use Rattle.tz_lines.specs.Refusal.{Refuses, MeansFault};
+ghost use Rattle.tz_specs.specs.Unbuilt.{ReadsSoFar};
+ghost use Rattle.tz_lines.specs.Refusal.{MeansFault};
 
-use crate::cutting::next_line;
-use crate::entry::{Entry, entry_of};
-use crate::{ReadError, values};
+use crate::ReadError;
+use crate::building::build;
+use crate::gathering::gather;
+use crate::version::version;
 use std::alloc::Global;
-use tz_text::{Fields, Joined};
-use tz_types::{Items, Label, Zone, ZoneLine};
+use tz_types::Db;
 
-/// What a line says, where it is built: nothing, or an entry.
-fn read_line(
-    line: &[u8],
-    joined: &mut Joined,
-    number: u32,
-    continues: bool,
-) -> Result<Option<Entry>, ReadError>
-    ensures ok { IfOk result (λ read. reading_of continues number line.now ≡ Some (option_map written_entry read)) }
-    ensures plain { IfOk result (λ read. IfSome read (λ entry. IsTrue (is_plain entry.line))) }
-    ensures named { IfOk result (λ read. IfSome read (λ entry. is_some entry.name ≡ not continues)) }
-    ensures err { IfErr result (λ e. Refuses e (reading_of continues number line.now)) }
+/// Reads a zone text of at most 4,194,304 bytes whole.
+///
+/// Its lines are Rule, Zone, continuation and Link records in fields with white space between, as zic(8) describes them;
+/// `#` begins a comment, and a first line `# version VERSION` names the version.
+///
+/// A text is refused at the first line that has one of the causes 1 to 18, with its least: 1 it is longer than 2,048
+/// bytes with its newline, 2 it has a NUL byte, 3 it leaves a quote open, 4 it has another keyword, 5 another number of
+/// fields, 6 a year isn't of its form, 7 TO is below FROM, 8 the fifth field of a rule isn't `-`, 9 a field names no month,
+/// 10 the month has no such day, 11 a time or a standard offset isn't of its form, 12 a save isn't, 13 a name isn't, 14 a
+/// format or letters aren't, 15 they are too long, and 18 there are too many lines, records or bytes of a name. Where no
+/// line has one of these, it is refused at the least line with one of these, and the least there: 0 a form that isn't built
+/// yet (a link; rules or a format with `%` or `/` in a line of a zone), 19 the last line of a zone has an UNTIL, 21 an
+/// earlier zone or link has the name, 23 a line ends no later than it starts.
+pub fn read_zones(alloc: Global, text: &[u8]) -> Result<Db, ReadError>
+    requires { length text.now ≤ 4_194_304 }
+    ensures ok { IfOk result (λ db. ReadsSoFar text.now db) }
+    ensures sound { IfOk result (λ db. IsTrue (is_sound db)) }
+    ensures refused { IfErr result (λ e. MeansFault e text.now) }
 {
-    if !values::is_built_form(line) {
-        return Err(ReadError::UNBUILT);
-    }
-    let Ok(fields) = Fields::cut(line, joined) else {
-        return Err(ReadError::UNBUILT);
+    let gathered = match gather(alloc, text) {
+        Ok(gathered) => gathered,
+        Err(error) => return Err(error),
     };
-    if fields.count() == 0 {
-        return Ok(None);
-    }
-    if fields.count() > 10 {
-        return Err(ReadError::UNBUILT);
-    }
-    match entry_of(&fields, number, continues) {
-        Some(entry) => Ok(Some(entry)),
-        None => Err(ReadError::UNBUILT),
-    }
-}
-
-/// Whether the last of the lines has an UNTIL, and so wants another.
-fn last_wants(lines: &[ZoneLine]) -> bool
-    ensures { result ≡ last_wants (map written_line lines.now) }
-{
-    match lines.last() {
-        None => false,
-        Some(line) => line.until.is_some(),
-    }
-}
-
-/// Whether the zone that was begun wants another line.
-fn wants_line(zone: &Option<Zone>) -> bool
-    ensures { result ≡ wants_line (written_begun zone.now) }
-{
-    match zone {
-        None => false,
-        Some(zone) => last_wants(zone.lines.as_slice()),
-    }
-}
-
-/// Begins the zone with its first line. A second zone isn't built.
-fn begin_zone(
-    alloc: Global,
-    zone: &mut Option<Zone>,
-    name: Label,
-    line: ZoneLine,
-) -> Result<(), ReadError>
-    ensures ok { OnOk result ((zone.old ≡ None) × (zone.new ≡ Some (record { name = name; lines = line ∷ [] }))) }
-    ensures err { IfErr result (λ e. MeansFault e (IsSome zone.old)) }
-{
-    if zone.is_some() {
-        return Err(ReadError::UNBUILT);
-    }
-    let mut lines = Items::new(alloc);
-    lines.push(line)?;
-    *zone = Some(Zone { name, lines });
-    Ok(())
-}
-
-/// Continues the zone by a line. A line too many isn't built.
-fn continue_zone(zone: &mut Zone, line: ZoneLine) -> Result<(), ReadError>
-    ensures ok { OnOk result (zone.new ≡ record { name = zone.old.name; lines = zone.old.lines ++ line ∷ [] }) }
-    ensures err { IfErr result (λ e. MeansFault e (most_lines ≤ length zone.old.lines)) }
-{
-    if zone.lines.len() >= 255 {
-        return Err(ReadError::UNBUILT);
-    }
-    zone.lines.push(line)?;
-    Ok(())
-}
-
-/// Adds an entry to the zone that was begun. One that begins a second zone, or is a line too many, isn't built.
-fn add_entry(alloc: Global, zone: &mut Option<Zone>, entry: Entry) -> Result<(), ReadError>
-    requires begun { IsNone entry.name → IsSome zone.old }
-    ensures ok { OnOk result (Adds zone.old zone.new (written_entry entry)) }
-    ensures plain { OnOk result (IsTrue (is_plain entry.line) → IsPlainBegun zone.old → IsPlainBegun zone.new) }
-    ensures err { IfErr result (λ e. MeansFault e (Exceeds zone.old (written_entry entry))) }
-{
-    let Entry { name, line } = entry;
-    match name {
-        Some(name) => begin_zone(alloc, zone, name, line),
-        None => match zone {
-            Some(zone) => continue_zone(zone, line),
-            None => unreachable!(),
-        },
-    }
-}
-
-/// Reads one more line of a text.
-fn take_line(
-    alloc: Global,
-    zone: &mut Option<Zone>,
-    joined: &mut Joined,
-    line: &[u8],
-    number: u32,
-) -> Result<(), ReadError>
-    ensures ok { OnOk result ((lines : List (List ℕ)) →
-        outcome (written_begun zone.old) number (line.now ∷ lines) ≡ outcome (written_begun zone.new) (number + 1) lines) }
-    ensures plain { OnOk result (IsPlainBegun zone.old → IsPlainBegun zone.new) }
-    ensures err { IfErr result (λ e. (lines : List (List ℕ)) → Refuses e (outcome (written_begun zone.old) number (line.now ∷ lines))) }
-{
-    let continues = wants_line(zone);
-    match read_line(line, joined, number, continues) {
-        Ok(None) => Ok(()),
-        Ok(Some(entry)) => add_entry(alloc, zone, entry),
+    match build(alloc, gathered, version(text)) {
+        Ok(db) => Ok(db),
         Err(error) => Err(error),
     }
-}
-
-/// Reads all lines of a text of at most 100,000 lines.
-pub fn take_lines(alloc: Global, text: &[u8]) -> Result<Option<Zone>, ReadError>
-    requires { length text.now ≤ 4_194_304 }
-    ensures ok { IfOk result (λ zone. (length (lines_of text.now) ≤ 100_000) × (outcome None 1 (lines_of text.now) ≡ built_after (written_begun zone) [])) }
-    ensures plain { IfOk result IsPlainBegun }
-    ensures err { IfErr result (λ e. MeansFault e ((100_000 < length (lines_of text.now)) ⊎ (outcome None 1 (lines_of text.now) ≡ None))) }
-{
-    let mut zone = None;
-    let mut joined = Joined::new();
-    let mut number = 1;
-    let mut rest = text;
-    while !rest.is_empty() {
-        if number > 100_000 {
-            return Err(ReadError::UNBUILT);
-        }
-        let (line, later) = next_line(rest);
-        take_line(alloc, &mut zone, &mut joined, line, number)?;
-        number += 1;
-        rest = later;
-    }
-    Ok(zone)
 }

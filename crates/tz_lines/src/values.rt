@@ -1,109 +1,37 @@
-ghost use Rattle.std.specs.Prelude.{◌≡◌, ◌==◌, ◌||◌, not, IsTrue, IfSome, option_map, is_some, codes, nat_eq};
-ghost use Rattle.std.specs.List.{list_any, ends_with};
-ghost use Rattle.tz_types.specs.Year.{IsRuleYear};
+//! The values of single fields.
+ghost use Rattle.std.specs.Prelude.{◌≡◌, ◌==◌, ◌||◌, ◌≤◌, false, IsTrue, IfSome, length};
+ghost use Rattle.std.specs.List.{list_any, list_all};
+ghost use Rattle.tz_types.specs.Text.{is_printable};
+ghost use Rattle.tz_types.specs.Year.{IsWrittenYear, IsRuleYear};
 ghost use Rattle.tz_types.specs.Amount.{IsShift, IsTimeOfDay};
-ghost use Rattle.tz_types.specs.Calendar.{has_day};
-ghost use Rattle.tz_types.specs.Format.{is_format, is_plain};
-ghost use Rattle.tz_specs.specs.Field.{hash, quote};
-ghost use Rattle.tz_specs.specs.Record.{is_plain_line, is_text, is_word, name_of, whole_amount_of, stdoff_of, no_rules_of, format_of, until_year_of, month_of, is_plain_day, until_day_of, universal_time_of};
+ghost use Rattle.tz_types.specs.Calendar.{has_day, has_day_through};
+ghost use Rattle.tz_specs.specs.Value.{is_exactly, is_dash, rule_year_of, last_year_named, years_of, month_named, rule_day_of, until_day_of, kind_of, time_of, is_shift, stdoff_of, is_daylight, save_of, is_bad_name, is_long_name, starts_amount, letters_of};
 
-use tz_text::{Amount, amount, on, year};
-use tz_types::{Abbrev, Format, Label, Month, On, has_day};
+use tz_text::{amount, named, on, year};
+use tz_types::{AtKind, Label, Letters, Month, On, has_day, has_day_through};
 
-/// Whether a line has at most 2,048 bytes with its newline, and no `#`, `"` and NUL.
-pub fn is_built_form(line: &[u8]) -> bool
-    ensures { result ≡ is_plain_line line.now }
+const MONTHS: &[u8] =
+    b"January February March April May June July August September October November December";
+
+const LAST_YEARS: &[u8] = b"maximum minimum only";
+
+/// Whether the field has exactly these bytes.
+pub fn is_exactly(field: &[u8], bytes: &[u8]) -> bool
+    ensures { result ≡ is_exactly field.now bytes.now }
 {
-    line.len() + 1 <= 2_048 && !has_special(line)
+    field == bytes
 }
 
-fn has_special(line: &[u8]) -> bool
-    ensures { result ≡ list_any (λ byte. (byte == hash) || (byte == quote) || (byte == 0)) line.now }
+/// Whether the field is `-`.
+pub fn is_dash(field: &[u8]) -> bool
+    ensures { result ≡ is_dash field.now }
 {
-    line.iter()
-        .any(|byte| *byte == b'#' || *byte == b'"' || *byte == 0)
+    is_exactly(field, b"-")
 }
 
-/// A name of 1 to 255 visible bytes.
-pub fn name(field: &[u8]) -> Option<Label>
-    ensures { result ≡ name_of field.now }
-{
-    Label::new(field).ok()
-}
-
-fn has_point(field: &[u8]) -> bool
-    ensures { result ≡ list_any (λ byte. byte == 0x2e) field.now }
-{
-    field.iter().any(|byte| *byte == b'.')
-}
-
-/// An amount of time without a fraction.
-fn whole_amount(field: &[u8], letters: &[u8]) -> Option<Amount>
-    ensures value { option_map (λ a. (a.seconds, a.suffix)) result ≡ whole_amount_of letters.now field.now }
-    ensures bound { IfSome result (λ a. IsTimeOfDay a.seconds) }
-{
-    if has_point(field) {
-        return None;
-    }
-    amount(field, letters)
-}
-
-/// A standard offset of at most a day, in seconds.
-pub fn standard_offset(field: &[u8]) -> Option<i64>
-    ensures value { result ≡ stdoff_of field.now }
-    ensures bound { IfSome result IsShift }
-{
-    let offset = whole_amount(field, b"")?.seconds;
-    if offset.unsigned_abs() <= 86_400 {
-        Some(offset)
-    } else {
-        None
-    }
-}
-
-/// The `-` that stands for no rules.
-pub fn no_rules(field: &[u8]) -> Option<()>
-    ensures { is_some result ≡ is_some (no_rules_of field.now) }
-{
-    if field == b"-".as_slice() {
-        Some(())
-    } else {
-        None
-    }
-}
-
-/// The word that begins a zone.
-pub fn zone_word(field: &[u8]) -> Option<()>
-    ensures { is_some result ≡ is_word field.now (codes "Zone") }
-{
-    if field == b"Zone".as_slice() {
-        Some(())
-    } else {
-        None
-    }
-}
-
-/// A format that stands for itself: 1 to 24 visible bytes, none of them `%` or `/`.
-pub fn plain_format(field: &[u8]) -> Option<Format>
-    ensures value { result ≡ format_of field.now }
-    ensures form { IfSome result (λ format. IsTrue (is_format format)) }
-    ensures text { IfSome result (λ format. IsTrue (is_text format)) }
-{
-    if field.is_empty() || field.len() > 24 || !is_without_marks(field) {
-        return None;
-    }
-    Some(Format::Text(Abbrev::new(field).ok()?))
-}
-
-fn is_without_marks(field: &[u8]) -> bool
-    ensures { result ≡ is_plain field.now }
-{
-    field.iter().all(|byte| !(*byte == b'%' || *byte == b'/'))
-}
-
-/// The year of an UNTIL, from -9998 to 9998.
-pub fn until_year(field: &[u8]) -> Option<i32>
-    ensures value { result ≡ until_year_of field.now }
+/// A year from -9998 to 9998.
+pub fn rule_year(field: &[u8]) -> Option<i32>
+    ensures value { result ≡ rule_year_of field.now }
     ensures bound { IfSome result IsRuleYear }
 {
     let year = year(field)?;
@@ -114,77 +42,221 @@ pub fn until_year(field: &[u8]) -> Option<i32>
     }
 }
 
-/// A month by its first three letters, spelt so.
-#[tactic(auto, unfolding(tz_specs::specs::Record::month_of))]
-pub fn month(field: &[u8]) -> Option<Month>
-    ensures { result ≡ month_of field.now }
+/// The last year that a word names: the one after all others, or the first year.
+fn last_year(first: i32, word: &[u8]) -> Option<i32>
+    requires { IsWrittenYear first }
+    ensures value { result ≡ last_year_named first word.now }
+    ensures bound { IfSome result IsWrittenYear }
 {
-    if field == b"Jan".as_slice() {
-        Some(Month::January)
-    } else if field == b"Feb".as_slice() {
-        Some(Month::February)
-    } else if field == b"Mar".as_slice() {
-        Some(Month::March)
-    } else if field == b"Apr".as_slice() {
-        Some(Month::April)
-    } else if field == b"May".as_slice() {
-        Some(Month::May)
-    } else if field == b"Jun".as_slice() {
-        Some(Month::June)
-    } else if field == b"Jul".as_slice() {
-        Some(Month::July)
-    } else if field == b"Aug".as_slice() {
-        Some(Month::August)
-    } else if field == b"Sep".as_slice() {
-        Some(Month::September)
-    } else if field == b"Oct".as_slice() {
-        Some(Month::October)
-    } else if field == b"Nov".as_slice() {
-        Some(Month::November)
-    } else if field == b"Dec".as_slice() {
-        Some(Month::December)
-    } else {
-        None
+    match named(word, LAST_YEARS)? {
+        0 => Some(999_999_999),
+        2 => Some(first),
+        _ => None,
     }
 }
 
-fn is_plain_day(on: On) -> bool
-    ensures { result ≡ is_plain_day on }
+/// FROM and TO: two years, where TO may be a word.
+#[tactic(auto, unfolding(tz_specs::specs::Value::years_of))]
+pub fn years(from: &[u8], to: &[u8]) -> Option<(i32, i32)>
+    ensures value { result ≡ years_of from.now to.now }
+    ensures first { IfSome result (λ years. IsWrittenYear years.0) }
+    ensures last { IfSome result (λ years. IsWrittenYear years.1) }
 {
-    match on {
-        On::Day(_) => true,
-        On::Last(_) | On::From(_, _) | On::UpTo(_, _) => false,
+    let first = year(from)?;
+    let last = match year(to) {
+        Some(last) => last,
+        None => last_year(first, to)?,
+    };
+    Some((first, last))
+}
+
+/// The month that the word names.
+#[tactic(auto, unfolding(tz_specs::specs::Value::month_named))]
+pub fn month(word: &[u8]) -> Option<Month>
+    ensures { result ≡ month_named word.now }
+{
+    match named(word, MONTHS)? {
+        0 => Some(Month::January),
+        1 => Some(Month::February),
+        2 => Some(Month::March),
+        3 => Some(Month::April),
+        4 => Some(Month::May),
+        5 => Some(Month::June),
+        6 => Some(Month::July),
+        7 => Some(Month::August),
+        8 => Some(Month::September),
+        9 => Some(Month::October),
+        10 => Some(Month::November),
+        11 => Some(Month::December),
+        _ => None,
     }
 }
 
-/// A plain day number that the month has in that year.
-pub fn until_day(year: i32, month: Month, field: &[u8]) -> Option<On>
-    requires { IsRuleYear year }
-    ensures value { result ≡ until_day_of year month field.now }
-    ensures day { IfSome result (λ on. IsTrue (has_day year month on)) }
+/// The day of a rule, which the month has in each of the years.
+#[tactic(auto, unfolding(tz_specs::specs::Value::rule_day_of))]
+pub fn rule_day(first: i32, last: i32, month: Month, field: &[u8]) -> Option<On>
+    ensures value { result ≡ rule_day_of (Some (first, last)) (Some month) field.now }
+    ensures day { IfSome result (λ on. IsTrue (has_day_through first last month on)) }
 {
     let on = on(field)?;
-    if is_plain_day(on) && has_day(year, month, on) {
+    if has_day_through(first, last, month, on) {
         Some(on)
     } else {
         None
     }
 }
 
-/// Whether the field ends with a small `u`.
-fn ends_with_u(field: &[u8]) -> bool
-    ensures { result ≡ ends_with nat_eq field.now (codes "u") }
+/// The day of an UNTIL, which the month has in that year.
+#[tactic(auto, unfolding(tz_specs::specs::Value::until_day_of))]
+pub fn until_day(year: i32, month: Month, field: &[u8]) -> Option<On>
+    requires { IsRuleYear year }
+    ensures value { result ≡ until_day_of (Some year) (Some month) field.now }
+    ensures day { IfSome result (λ on. IsTrue (has_day year month on)) }
 {
-    field.ends_with(b"u")
+    let on = on(field)?;
+    if has_day(year, month, on) {
+        Some(on)
+    } else {
+        None
+    }
 }
 
-/// A time of day that ends with a small `u`, in seconds of universal time.
-pub fn universal_time(field: &[u8]) -> Option<i64>
-    ensures value { result ≡ universal_time_of field.now }
-    ensures bound { IfSome result IsTimeOfDay }
+/// Which clock a time is read from, by the letter behind it.
+fn at_kind(suffix: u8) -> AtKind
+    ensures { result ≡ kind_of suffix }
 {
-    if !ends_with_u(field) {
-        return None;
+    match suffix {
+        b's' => AtKind::Standard,
+        b'u' | b'g' | b'z' => AtKind::Universal,
+        _ => AtKind::Wall,
     }
-    Some(whole_amount(field, b"u")?.seconds)
+}
+
+/// A time of day, and the clock that it is read from.
+pub fn time(field: &[u8]) -> Option<(i64, AtKind)>
+    ensures value { result ≡ time_of field.now }
+    ensures bound { IfSome result (λ time. IsTimeOfDay time.0) }
+{
+    let amount = amount(field, b"wsugz")?;
+    Some((amount.seconds, at_kind(amount.suffix)))
+}
+
+/// Whether the seconds are at most a day, with either sign.
+fn is_shift(seconds: i64) -> bool
+    ensures { result ≡ is_shift seconds }
+{
+    seconds.unsigned_abs() <= 86_400
+}
+
+/// A standard offset, in seconds.
+pub fn standard_offset(field: &[u8]) -> Option<i64>
+    ensures value { result ≡ stdoff_of field.now }
+    ensures bound { IfSome result IsShift }
+{
+    let seconds = amount(field, b"")?.seconds;
+    if is_shift(seconds) {
+        Some(seconds)
+    } else {
+        None
+    }
+}
+
+/// Whether a save makes daylight time.
+fn is_daylight(seconds: i64, suffix: u8) -> bool
+    ensures { result ≡ is_daylight (seconds, suffix) }
+{
+    if suffix == 0 {
+        seconds != 0
+    } else {
+        suffix == b'd'
+    }
+}
+
+/// A save, in seconds, and whether it makes daylight time.
+pub fn save(field: &[u8]) -> Option<(i64, bool)>
+    ensures value { result ≡ save_of field.now }
+    ensures bound { IfSome result (λ save. IsShift save.0) }
+{
+    let amount = amount(field, b"sd")?;
+    if is_shift(amount.seconds) {
+        Some((amount.seconds, is_daylight(amount.seconds, amount.suffix)))
+    } else {
+        None
+    }
+}
+
+/// Whether all bytes are visible.
+pub fn are_visible(bytes: &[u8]) -> bool
+    ensures { result ≡ list_all is_printable bytes.now }
+{
+    bytes.iter().all(|byte| *byte >= 0x21 && *byte <= 0x7e)
+}
+
+/// Whether a name has no bytes, or one that isn't visible.
+pub fn is_bad_name(field: &[u8]) -> bool
+    ensures { result ≡ is_bad_name field.now }
+{
+    field.is_empty() || !are_visible(field)
+}
+
+/// Whether a name has more than 255 bytes.
+pub fn is_long_name(field: &[u8]) -> bool
+    ensures { result ≡ is_long_name field.now }
+{
+    field.len() > 255
+}
+
+/// Whether a name is too long, or its record one too many.
+pub fn is_beyond(name: &[u8], too_many: bool) -> bool
+    ensures { result ≡ (is_long_name name.now || too_many) }
+{
+    is_long_name(name) || too_many
+}
+
+/// The name, which is neither bad nor long.
+pub fn label(field: &[u8]) -> Label
+    requires good { is_bad_name field.now ≡ false }
+    requires short { is_long_name field.now ≡ false }
+    ensures { result ≡ field.now }
+{
+    let Ok(label) = Label::new(field) else {
+        unreachable!()
+    };
+    label
+}
+
+/// Whether the field starts as an amount does, and so is no rule's name.
+pub fn starts_amount(field: &[u8]) -> bool
+    ensures { result ≡ starts_amount field.now }
+{
+    match field {
+        [] => false,
+        [first, ..] => (*first >= b'0' && *first <= b'9') || *first == b'-' || *first == b'+',
+    }
+}
+
+/// The bytes of a rule's letters, of which `-` has none.
+pub fn letter_bytes(field: &[u8]) -> &[u8]
+    ensures { result.now ≡ letters_of field.now }
+{
+    if is_dash(field) { &[] } else { field }
+}
+
+/// The letters of at most 8 visible bytes.
+pub fn letters(bytes: &[u8]) -> Letters
+    requires visible { IsTrue (list_all is_printable bytes.now) }
+    requires few { length bytes.now ≤ 8 }
+    ensures { result ≡ bytes.now }
+{
+    let Ok(letters) = Letters::new(bytes) else {
+        unreachable!()
+    };
+    letters
+}
+
+/// Whether the line has a NUL byte.
+pub fn has_nul(line: &[u8]) -> bool
+    ensures { result ≡ list_any (λ byte. byte == 0) line.now }
+{
+    line.iter().any(|byte| *byte == 0)
 }

@@ -1,0 +1,255 @@
+-- A line without a cause says a record that may follow what stands before it.
+use Rattle.std.proofs.Common.{◌≡◌, ℕ, ℤ, zero, suc, ◌+◌, ◌==◌, Bool, true, false, not, ◌&&◌, ◌||◌, if◌then◌else◌, nat_lt, IsTrue, List, [], ◌∷◌, ◌++◌, length, drop, Option, Some, None, option_map, Ok, refl, sym, ap, ◌∙◌, subst, arith}
+use Rattle.std.proofs.lemmas.Bool.{and_parts, and_from, or_parts}
+use Rattle.std.specs.Option.{is_none}
+use Rattle.std.specs.List.{list_all, list_any, slice_get}
+use Rattle.std.proofs.lemmas.Bool.Decides.{nat_tests}
+use Rattle.std.proofs.lemmas.Option.{same_Some}
+use Rattle.tz_types.specs.Order.{name_before}
+use Rattle.tz_types.specs.declared.calendar.Month.{Month}
+use Rattle.tz_types.specs.declared.calendar.On.{On}
+use Rattle.tz_types.specs.declared.moment.AtKind.{AtKind}
+use Rattle.tz_types.specs.declared.format.Format.{Format}
+use Rattle.tz_types.specs.declared.cause.Cause.{Cause}
+use Rattle.tz_types.specs.declared.cause.Cause.TheVariants as causes
+use Rattle.tz_specs.specs.Choice.{◌>>=◌}
+use Rattle.tz_specs.specs.Causes.{least_cause, unless_cause}
+use Rattle.tz_specs.specs.Line.{line_length}
+use Rattle.tz_specs.specs.Field.{fields_of}
+use Rattle.tz_specs.specs.Word.{named_entry}
+use Rattle.tz_specs.specs.Value.{field_at, month_named, years_of, time_of, stdoff_of, save_of, rules_of, format_of, letters_of, names_set, is_bad_name, is_long_name}
+use Rattle.tz_specs.specs.Written.{WrittenRule, WrittenSet, WrittenRules, WrittenUntil, WrittenLine, Record, RuleRecord, ZoneRecord, Continuation, LinkRecord}
+use Rattle.tz_specs.specs.Record.{Kind, RuleLine, ZoneLine, LinkLine, ContinuationLine, keyword_table, kind_of_record, has_count, rule_day, rule_causes, line_causes, link_causes, rule_of, until_of, line_of, link_of, record_of}
+use Rattle.tz_specs.specs.Contents.{Contents, waits, exceeds_rules, exceeds_zones, exceeds_lines, exceeds_links, record_causes, kind_causes, field_causes, fields_or_none, causes_of_line, record_of_fields, line_says, with_rule, with_record, is_set_named}
+use Rattle.tz_lines.specs.Following.{are_before, may_follow}
+
+-- rows without a cause
+
+step : (holds : Bool) (cause : Cause) (rest : Option Cause) → (if holds then Some cause else rest) ≡ None → (holds ≡ false) × (rest ≡ None)
+step true cause rest h = cc
+step false cause rest h = (refl, h)
+
+-- a row, and those behind it
+row_false : (row : Cause × Bool) (rows : List (Cause × Bool)) → least_cause (row ∷ rows) ≡ None → row.1 ≡ false
+row_false row rows h = (step row.1 row.0 (least_cause rows) h).0
+
+rows_false : (row : Cause × Bool) (rows : List (Cause × Bool)) → least_cause (row ∷ rows) ≡ None → least_cause rows ≡ None
+rows_false row rows h = (step row.1 row.0 (least_cause rows) h).1
+
+front_false : (rows later : List (Cause × Bool)) → least_cause (rows ++ later) ≡ None → least_cause rows ≡ None
+front_false [] later h = refl
+front_false (row ∷ rows) later h =
+    let first = row_false row (rows ++ later) h in
+    rw first (front_false rows later (rows_false row (rows ++ later) h))
+
+row_at : (rows : List (Cause × Bool)) → least_cause rows ≡ None → (place : ℕ) (row : Cause × Bool) → slice_get rows place ≡ Some row → row.1 ≡ false
+row_at [] h place row e = cc
+row_at (first ∷ rows) h zero row e =
+    let same = same_Some first row e in
+    ap (λ (it : Cause × Bool). it.1) (sym same) ∙ row_false first rows h
+row_at (first ∷ rows) h (suc place) row e = row_at rows (rows_false first rows h) place row e
+
+-- what no cause of a kind of line says of the limit
+
+rule_room : (too_many : Bool) (fields : List (List ℕ)) → least_cause (rule_causes too_many fields) ≡ None → too_many ≡ false
+unfolding rule_causes
+rule_room too_many fields h =
+    (or_parts (is_long_name (field_at 1 fields)) too_many (row_at (rule_causes too_many fields) h 10 (causes.Limit, is_long_name (field_at 1 fields) || too_many) refl)).1
+
+link_room : (too_many : Bool) (fields : List (List ℕ)) → least_cause (link_causes too_many fields) ≡ None → too_many ≡ false
+link_room too_many fields h =
+    (or_parts (is_long_name (field_at 1 fields) || is_long_name (field_at 2 fields)) too_many (row_at (link_causes too_many fields) h 1 (causes.Limit, is_long_name (field_at 1 fields) || is_long_name (field_at 2 fields) || too_many) refl)).1
+
+line_room : (badly_named too_many : Bool) (fields : List (List ℕ)) → least_cause (line_causes badly_named too_many fields) ≡ None → too_many ≡ false
+unfolding line_causes
+line_room badly_named too_many fields h =
+    (or_parts too_many (names_set (field_at 1 fields) && is_long_name (field_at 1 fields)) (row_at (line_causes badly_named too_many fields) h 8 (causes.Limit, too_many || (names_set (field_at 1 fields) && is_long_name (field_at 1 fields))) refl)).0
+
+-- a rule stands at its line
+
+abbrev rule_by : ℕ → List ℕ → Option (ℤ × ℤ) → Option Month → Option On → Option (ℤ × AtKind) → Option (ℤ × Bool) → Option WrittenRule
+rule_by number letters years month on time save = do
+  span ← years
+  name ← month
+  day ← on
+  moment ← time
+  shift ← save
+  Some (
+      record {
+        from = span.0;
+        to = span.1;
+        moment = record { month = name; on = day; at = moment.0; kind = moment.1 };
+        save = shift.0;
+        daylight = shift.1;
+        letters = letters;
+        line = number;
+      })
+
+line_or : ℕ → Option WrittenRule → ℕ
+line_or number None = number
+line_or number (Some rule) = rule.line
+
+rule_by-line : (number : ℕ) (letters : List ℕ) (years : Option (ℤ × ℤ)) (month : Option Month) (on : Option On) (time : Option (ℤ × AtKind)) (save : Option (ℤ × Bool)) → line_or number (rule_by number letters years month on time save) ≡ number
+unfolding line_or
+rule_by-line number letters None month on time save = refl
+rule_by-line number letters (Some span) None on time save = refl
+rule_by-line number letters (Some span) (Some name) None time save = refl
+rule_by-line number letters (Some span) (Some name) (Some day) None save = refl
+rule_by-line number letters (Some span) (Some name) (Some day) (Some moment) None = refl
+rule_by-line number letters (Some span) (Some name) (Some day) (Some moment) (Some shift) = refl
+
+rule_line : (number : ℕ) (fields : List (List ℕ)) (rule : WrittenRule) → rule_of number fields ≡ Some rule → rule.line ≡ number
+unfolding rule_of line_or
+rule_line number fields rule h =
+    ap (line_or number) (sym h)
+    ∙ rule_by-line number (letters_of (field_at 9 fields)) (years_of (field_at 2 fields) (field_at 3 fields)) (month_named (field_at 5 fields)) (rule_day fields) (time_of (field_at 7 fields)) (save_of (field_at 8 fields))
+
+-- and so does a line of a zone
+
+abbrev zone_line_by : ℕ → Option ℤ → Option WrittenRules → Option Format → Option (Option WrittenUntil) → Option WrittenLine
+zone_line_by number stdoff rules format until = do
+  offset ← stdoff
+  following ← rules
+  form ← format
+  end ← until
+  Some (record { stdoff = offset; rules = following; format = form; until = end; line = number })
+
+zone_line_or : ℕ → Option WrittenLine → ℕ
+zone_line_or number None = number
+zone_line_or number (Some line) = line.line
+
+zone_line_by-line : (number : ℕ) (stdoff : Option ℤ) (rules : Option WrittenRules) (format : Option Format) (until : Option (Option WrittenUntil)) → zone_line_or number (zone_line_by number stdoff rules format until) ≡ number
+unfolding zone_line_or
+zone_line_by-line number None rules format until = refl
+zone_line_by-line number (Some offset) None format until = refl
+zone_line_by-line number (Some offset) (Some following) None until = refl
+zone_line_by-line number (Some offset) (Some following) (Some form) None = refl
+zone_line_by-line number (Some offset) (Some following) (Some form) (Some end) = refl
+
+zone_line : (number : ℕ) (fields : List (List ℕ)) (line : WrittenLine) → line_of number fields ≡ Some line → line.line ≡ number
+unfolding line_of zone_line_or
+zone_line number fields line h =
+    ap (zone_line_or number) (sym h)
+    ∙ zone_line_by-line number (stdoff_of (field_at 0 fields)) (rules_of (field_at 1 fields)) (format_of (field_at 2 fields)) (until_of fields)
+
+-- a line is a continuation only where the zone before it waits
+
+no_keyword : (place : Option ℕ) → (place >>= λ it. slice_get (RuleLine ∷ ZoneLine ∷ LinkLine ∷ []) it) ≡ Some ContinuationLine → false ≡ true
+no_keyword None h = cc
+no_keyword (Some zero) h = cc
+no_keyword (Some (suc zero)) h = cc
+no_keyword (Some (suc (suc zero))) h = cc
+no_keyword (Some (suc (suc (suc place)))) h = cc
+
+waits_for : (waiting : Bool) (fields : List (List ℕ)) → kind_of_record waiting fields ≡ Some ContinuationLine → waiting ≡ true
+waits_for true fields h = refl
+waits_for false fields h = no_keyword (named_entry (field_at 0 fields) keyword_table) h
+
+-- rules before a line stand before the next line too, and so does a rule at that line
+
+lines_before : (number : ℕ) (rules : List WrittenRule) → list_all (λ (rule : WrittenRule). nat_lt rule.line number) rules ≡ true → list_all (λ (rule : WrittenRule). nat_lt rule.line (number + 1)) rules ≡ true
+lines_before number [] h = refl
+lines_before number (rule ∷ rules) h =
+    let here = (and_parts (nat_lt rule.line number) (list_all (λ (it : WrittenRule). nat_lt it.line number) rules) h).0 in
+    let later = (and_parts (nat_lt rule.line number) (list_all (λ (it : WrittenRule). nat_lt it.line number) rules) h).1 in
+    and_from (nat_lt rule.line (number + 1)) (list_all (λ (it : WrittenRule). nat_lt it.line (number + 1)) rules) (grind (arith, nat_tests)) (lines_before number rules later)
+
+abbrev rules_before : ℕ → WrittenSet → Bool
+rules_before number set = list_all (λ (rule : WrittenRule). nat_lt rule.line number) set.rules
+
+pub still_before : (number : ℕ) (sets : List WrittenSet) → are_before number sets ≡ true → are_before (number + 1) sets ≡ true
+still_before number [] h = refl
+still_before number (set ∷ sets) h =
+    and_from (rules_before (number + 1) set) (are_before (number + 1) sets) (lines_before number set.rules (and_parts (rules_before number set) (are_before number sets) h).0) (still_before number sets (and_parts (rules_before number set) (are_before number sets) h).1)
+
+pushed_before : (number : ℕ) (rules : List WrittenRule) (rule : WrittenRule) → nat_lt rule.line number ≡ true → list_all (λ (it : WrittenRule). nat_lt it.line number) rules ≡ true → list_all (λ (it : WrittenRule). nat_lt it.line number) (rules ++ rule ∷ []) ≡ true
+pushed_before number [] rule before h = and_from (nat_lt rule.line number) true before refl
+pushed_before number (it ∷ rules) rule before h =
+    and_from (nat_lt it.line number) (list_all (λ (it : WrittenRule). nat_lt it.line number) (rules ++ rule ∷ [])) (and_parts (nat_lt it.line number) (list_all (λ (it : WrittenRule). nat_lt it.line number) rules) h).0 (pushed_before number rules rule before (and_parts (nat_lt it.line number) (list_all (λ (it : WrittenRule). nat_lt it.line number) rules) h).1)
+
+added_before : (number : ℕ) (name : List ℕ) (rule : WrittenRule) (sets : List WrittenSet) → nat_lt rule.line number ≡ true → are_before number sets ≡ true → are_before number (with_rule name rule sets) ≡ true
+added_before number name rule [] before h =
+    and_from (nat_lt rule.line number && true) true (and_from (nat_lt rule.line number) true before refl) refl
+added_before number name rule (set ∷ sets) before h =
+    let here = (and_parts (rules_before number set) (are_before number sets) h).0 in
+    let later = (and_parts (rules_before number set) (are_before number sets) h).1 in
+    by_name (is_set_named name set) (name_before name set.name) here later (pushed_before number set.rules rule before here) (added_before number name rule sets before later)
+  where
+    by_name : (same earlier : Bool) → rules_before number set ≡ true → are_before number sets ≡ true → list_all (λ (it : WrittenRule). nat_lt it.line number) (set.rules ++ rule ∷ []) ≡ true → are_before number (with_rule name rule sets) ≡ true → are_before number (if same then record { name = name; rules = set.rules ++ rule ∷ [] } ∷ sets else (if earlier then record { name = name; rules = rule ∷ [] } ∷ set ∷ sets else set ∷ with_rule name rule sets)) ≡ true
+    by_name true earlier here later pushed added = and_from (list_all (λ (it : WrittenRule). nat_lt it.line number) (set.rules ++ rule ∷ [])) (are_before number sets) pushed later
+    by_name false true here later pushed added = and_from (nat_lt rule.line number && true) (rules_before number set && are_before number sets) (and_from (nat_lt rule.line number) true before refl) h
+    by_name false false here later pushed added = and_from (rules_before number set) (are_before number (with_rule name rule sets)) here added
+
+-- a zone begins at that line
+abbrev pub BeginsAt : ℕ → Record → Type 0
+BeginsAt number (RuleRecord name rule) = Unit {0}
+BeginsAt number (ZoneRecord name line) = line.line ≡ number
+BeginsAt number (Continuation line) = Unit {0}
+BeginsAt number (LinkRecord link) = Unit {0}
+
+-- The record of a line may follow what stands before it. A zone begins at the line, and all rules stand before the next.
+pub record Follows (contents : Contents) (number : ℕ) (said : Record) : Type 0 where
+  pub may : IsTrue (may_follow contents said)
+  pub begins : BeginsAt number said
+  pub before : IsTrue (are_before (number + 1) (with_record said contents).sets)
+
+rule_follows : (contents : Contents) (number : ℕ) (name : List ℕ) (rule : Option WrittenRule) (said : Record) → ((it : WrittenRule) → rule ≡ Some it → it.line ≡ number) → option_map (RuleRecord name) rule ≡ Some said → exceeds_rules name contents ≡ false → are_before number contents.sets ≡ true → Follows contents number said
+rule_follows contents number name None said at e room h = cc
+rule_follows contents number name (Some rule) said at e room h =
+    let same = same_Some (RuleRecord name rule) said e in
+    let line = at rule refl in
+    let earlier : nat_lt rule.line (number + 1) ≡ true = grind (arith, nat_tests) in
+    subst (Follows contents number) same (record {
+      may = rw (room, line) h;
+      begins = tt;
+      before = added_before (number + 1) name rule contents.sets earlier (still_before number contents.sets h);
+    })
+
+zone_follows : (contents : Contents) (number : ℕ) (name : List ℕ) (line : Option WrittenLine) (said : Record) → ((it : WrittenLine) → line ≡ Some it → it.line ≡ number) → option_map (ZoneRecord name) line ≡ Some said → exceeds_zones contents ≡ false → are_before number contents.sets ≡ true → Follows contents number said
+zone_follows contents number name None said at e room h = cc
+zone_follows contents number name (Some line) said at e room h =
+    let same = same_Some (ZoneRecord name line) said e in
+    subst (Follows contents number) same (record { may = rw room refl; begins = at line refl; before = still_before number contents.sets h })
+
+continuation_follows : (contents : Contents) (number : ℕ) (line : Option WrittenLine) (said : Record) → option_map Continuation line ≡ Some said → waits contents ≡ true → exceeds_lines contents ≡ false → are_before number contents.sets ≡ true → Follows contents number said
+continuation_follows contents number None said e waiting room h = cc
+continuation_follows contents number (Some line) said e waiting room h =
+    let same = same_Some (Continuation line) said e in
+    subst (Follows contents number) same (record { may = rw (waiting, room) refl; begins = tt; before = still_before number contents.sets h })
+
+by_kind : (contents : Contents) (number : ℕ) (fields : List (List ℕ)) (kind : Kind) (said : Record) → kind_of_record (waits contents) fields ≡ Some kind → least_cause (record_causes contents kind fields) ≡ None → record_of kind number fields ≡ Some said → are_before number contents.sets ≡ true → Follows contents number said
+by_kind contents number fields RuleLine said named none e h =
+    rule_follows contents number (field_at 1 fields) (rule_of number fields) said (rule_line number fields) e (rule_room (exceeds_rules (field_at 1 fields) contents) fields none) h
+by_kind contents number fields ZoneLine said named none e h =
+    let room = line_room (is_bad_name (field_at 1 fields)) (is_long_name (field_at 1 fields) || exceeds_zones contents) (drop 2 fields) none in
+    zone_follows contents number (field_at 1 fields) (line_of number (drop 2 fields)) said (zone_line number (drop 2 fields)) e (or_parts (is_long_name (field_at 1 fields)) (exceeds_zones contents) room).1 h
+by_kind contents number fields LinkLine said named none e h =
+    let same = same_Some (LinkRecord (link_of number fields)) said e in
+    let room = link_room (exceeds_links contents) fields none in
+    subst (Follows contents number) same (record { may = rw room refl; begins = tt; before = still_before number contents.sets h })
+by_kind contents number fields ContinuationLine said named none e h =
+    continuation_follows contents number (line_of number fields) said e (waits_for (waits contents) fields named) (line_room false (exceeds_lines contents) fields none) h
+
+by_named : (contents : Contents) (number : ℕ) (fields : List (List ℕ)) (kind : Option Kind) (said : Record) → kind_of_record (waits contents) fields ≡ kind → least_cause (kind_causes contents kind fields) ≡ None → (kind >>= λ it. record_of it number fields) ≡ Some said → are_before number contents.sets ≡ true → Follows contents number said
+by_named contents number fields None said named none e h = cc
+by_named contents number fields (Some kind) said named none e h =
+    by_kind contents number fields kind said named (rows_false (causes.FieldCount, not (has_count kind (length fields))) (record_causes contents kind fields) none) e h
+
+by_fields : (contents : Contents) (number : ℕ) (fields : List (List ℕ)) (said : Record) → least_cause (field_causes contents fields) ≡ None → record_of_fields contents number fields ≡ Some said → are_before number contents.sets ≡ true → Follows contents number said
+by_fields contents number [] said none e h = cc
+by_fields contents number (field ∷ fields) said none e h =
+    by_named contents number (field ∷ fields) (kind_of_record (waits contents) (field ∷ fields)) said refl none e h
+
+by_cause : (cause : Option Cause) (told : Option Record) (said : Record) → unless_cause cause told ≡ Ok (Some said) → (cause ≡ None) × (told ≡ Some said)
+by_cause None told said e = (refl, cc)
+by_cause (Some cause) told said e = cc
+
+pub follows : (contents : Contents) (number : ℕ) (line : List ℕ) (said : Record) → line_says contents number line ≡ Ok (Some said) → IsTrue (are_before number contents.sets) → Follows contents number said
+unfolding line_says
+follows contents number line said e h =
+    let fields = fields_or_none (fields_of line) in
+    let told = by_cause (least_cause (causes_of_line contents number line)) (record_of_fields contents number fields) said e in
+    let late = (causes.Limit, nat_lt 100_000 number) ∷ [] in
+    let open_quote = (causes.OpenQuote, is_none (fields_of line)) ∷ (field_causes contents fields ++ late) in
+    let none = rows_false (causes.OpenQuote, is_none (fields_of line)) (field_causes contents fields ++ late) (rows_false (causes.Nul, list_any (λ byte. byte == 0) line) open_quote (rows_false (causes.LongLine, nat_lt 2_048 (line_length line)) ((causes.Nul, list_any (λ byte. byte == 0) line) ∷ open_quote) told.0)) in
+    by_fields contents number fields said (front_false (field_causes contents fields) late none) told.1 h

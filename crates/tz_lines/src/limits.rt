@@ -1,0 +1,56 @@
+//! Whether one more record would be one too many, and whether a zone waits for a line.
+ghost use Rattle.std.specs.Prelude.{◌≡◌};
+ghost use Rattle.tz_specs.specs.Contents.{waits, exceeds_rules, exceeds_zones, exceeds_lines, exceeds_links};
+ghost use Rattle.tz_lines.specs.Gathered.{contents_gathered};
+
+use crate::contents::Gathered;
+use crate::rule_sets::set_place;
+
+impl Gathered {
+    /// Whether the zone that was begun last waits for a line.
+    pub fn waits(&self) -> bool
+        ensures { result ≡ waits (contents_gathered self.now) }
+    {
+        match self.zones.as_slice().last() {
+            None => false,
+            Some(zone) => match zone.lines.as_slice().last() {
+                None => false,
+                Some(line) => line.until.is_some(),
+            },
+        }
+    }
+
+    /// Whether a rule of that name would be one too many of its set, or its set one too many.
+    pub fn exceeds_rules(&self, name: &[u8]) -> bool
+        ensures { result ≡ exceeds_rules name.now (contents_gathered self.now) }
+    {
+        match set_place(self.sets.as_slice(), name) {
+            Ok(place) => self.sets.as_slice()[place].rules.len() >= 512,
+            Err(_) => self.sets.len() >= 1_024,
+        }
+    }
+
+    /// Whether a zone would be one too many.
+    pub fn exceeds_zones(&self) -> bool
+        ensures { result ≡ exceeds_zones (contents_gathered self.now) }
+    {
+        self.zones.len() >= 1_024
+    }
+
+    /// Whether a line would be one too many of its zone.
+    pub fn exceeds_lines(&self) -> bool
+        ensures { result ≡ exceeds_lines (contents_gathered self.now) }
+    {
+        match self.zones.as_slice().last() {
+            None => false,
+            Some(zone) => zone.lines.len() >= 255,
+        }
+    }
+
+    /// Whether a link would be one too many.
+    pub fn exceeds_links(&self) -> bool
+        ensures { result ≡ exceeds_links (contents_gathered self.now) }
+    {
+        self.links.len() >= 4_096
+    }
+}

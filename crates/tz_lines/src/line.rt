@@ -1,0 +1,79 @@
+//! One line of a zone text.
+ghost use Rattle.std.specs.Prelude.{◌≡◌, ℕ, ◌<◌, ◌≤◌, List, Ok, Err, option_map, nat_lt, IfOk, IfErr, length};
+ghost use Rattle.tz_text.specs.Kept.{kept_of, most_kept};
+ghost use Rattle.tz_specs.specs.Contents.{field_causes, record_of_fields, line_says};
+ghost use Rattle.tz_lines.specs.Entry.{written_entry};
+ghost use Rattle.tz_lines.specs.Gathered.{contents_gathered};
+ghost use Rattle.tz_lines.specs.LineOutcome.{Tells, fields_say, unless_late, Means};
+
+use crate::contents::Gathered;
+use crate::entry::Entry;
+use crate::kind::Kind;
+use crate::record_line::record_entry;
+use crate::values::has_nul;
+use tz_text::{Fields, Joined};
+use tz_types::Cause;
+
+/// What the fields of a line say that isn't blank, or their least cause.
+#[tactic(auto, using(crate::proofs::ZoneTextLines::no_kind, crate::proofs::ZoneTextLines::other_count, crate::proofs::ZoneTextLines::counted_fields, crate::proofs::ZoneTextLines::few_counted))]
+fn entry(fields: &Fields<'_>, number: u32, gathered: &Gathered) -> Result<Entry, Cause>
+    requires some { 0 < fields.now.count }
+    requires whole { fields.now.count ≤ most_kept → length fields.now.first ≡ fields.now.count }
+    ensures { (all : List (List ℕ)) → kept_of all ≡ fields.now →
+        Tells written_entry (field_causes (contents_gathered gathered.now) all) (record_of_fields (contents_gathered gathered.now) number all) result }
+{
+    let Some(kind) = Kind::of_fields(fields, gathered.waits()) else {
+        return Err(Cause::Keyword);
+    };
+    if !kind.has_count(fields.count()) {
+        return Err(Cause::FieldCount);
+    }
+    record_entry(kind, fields, number, gathered)
+}
+
+/// What is said by a line that isn't one too many.
+fn unless_late(entry: Option<Entry>, number: u32) -> Result<Option<Entry>, Cause>
+    ensures { result ≡ unless_late (nat_lt 100_000 number) entry }
+{
+    if number > 100_000 {
+        return Err(Cause::Limit);
+    }
+    Ok(entry)
+}
+
+/// What the fields of a line say: an entry, nothing where there are none, or their least cause.
+fn said(fields: &Fields<'_>, number: u32, gathered: &Gathered) -> Result<Option<Entry>, Cause>
+    requires { fields.now.count ≤ most_kept → length fields.now.first ≡ fields.now.count }
+    ensures { (all : List (List ℕ)) → kept_of all ≡ fields.now → Means result (fields_say (contents_gathered gathered.now) number all) }
+{
+    if fields.count() == 0 {
+        return unless_late(None, number);
+    }
+    match entry(fields, number, gathered) {
+        Ok(entry) => unless_late(Some(entry), number),
+        Err(cause) => Err(cause),
+    }
+}
+
+/// What a line says, by its number and by what the lines before it gave: an entry, nothing where it is blank, or its
+/// least cause.
+pub fn read_line(
+    line: &[u8],
+    joined: &mut Joined,
+    number: u32,
+    gathered: &Gathered,
+) -> Result<Option<Entry>, Cause>
+    ensures ok { IfOk result (λ said. line_says (contents_gathered gathered.now) number line.now ≡ Ok (option_map written_entry said)) }
+    ensures err { IfErr result (λ cause. line_says (contents_gathered gathered.now) number line.now ≡ Err cause) }
+{
+    if line.len() + 1 > 2_048 {
+        return Err(Cause::LongLine);
+    }
+    if has_nul(line) {
+        return Err(Cause::Nul);
+    }
+    let Ok(fields) = Fields::cut(line, joined) else {
+        return Err(Cause::OpenQuote);
+    };
+    said(&fields, number, gathered)
+}

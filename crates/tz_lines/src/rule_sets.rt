@@ -1,0 +1,68 @@
+//! Rule sets in the order of their names.
+ghost use Rattle.std.specs.Prelude.{◌≡◌, ◌∷◌, ◌++◌, [], ◌<◌, ◌≤◌, false, length, map, find, nat_lt, IsTrue, IfOk, OnOk};
+ghost use Rattle.std.specs.List.{list_all};
+ghost use Rattle.std.specs.List.Sorted.{IsSearchInRange};
+ghost use Rattle.tz_types.specs.Order.{ascends, name_before};
+ghost use Rattle.tz_types.specs.Limit.{most_rules, most_sets};
+ghost use Rattle.tz_types.specs.declared.rule.Rule.{Rule as DeclaredRule};
+ghost use Rattle.tz_types.specs.declared.rule_set.RuleSet.{RuleSet as DeclaredSet};
+ghost use Rattle.tz_specs.specs.Written.{written_rule, written_set, set_names};
+ghost use Rattle.tz_specs.specs.Contents.{with_rule, is_set_named, is_full_set};
+ghost use Rattle.tz_lines.specs.NamePlace.{name_place};
+ghost use Rattle.tz_lines.specs.Following.{are_before};
+
+use std::alloc::Global;
+use tz_types::{Items, Label, NoMemory, Rule, RuleSet};
+
+/// The place of the set of that name, or else the place where it would stand.
+pub fn set_place(sets: &[RuleSet], name: &[u8]) -> Result<usize, usize>
+    requires { IsTrue (ascends name_before (set_names sets.now)) }
+    ensures place { result ≡ name_place name.now (set_names sets.now) }
+    ensures bound { IsSearchInRange result (length sets.now) }
+{
+    sets.binary_search_by(|set| set.name.as_bytes().cmp(name))
+}
+
+/// Adds a rule that stands behind those of its set.
+fn push_rule(set: &mut RuleSet, rule: Rule) -> Result<(), NoMemory>
+    requires room { length set.old.rules < most_rules }
+    requires later { IsTrue (list_all (λ (other : DeclaredRule). nat_lt other.line rule.line) set.old.rules) }
+    ensures rules { OnOk result (set.new.rules ≡ set.old.rules ++ rule ∷ []) }
+    ensures name { set.new.name ≡ set.old.name }
+{
+    set.rules.push(rule)
+}
+
+/// A set of one rule.
+fn set_of(alloc: Global, name: Label, rule: Rule) -> Result<RuleSet, NoMemory>
+    ensures rules { IfOk result (λ (set : DeclaredSet). set.rules ≡ rule ∷ []) }
+    ensures name { IfOk result (λ (set : DeclaredSet). set.name ≡ name) }
+{
+    let mut rules = Items::new(alloc);
+    rules.push(rule)?;
+    Ok(RuleSet { name, rules })
+}
+
+/// Adds a rule behind those of its name, or as the first of them.
+pub fn add_rule(
+    alloc: Global,
+    sets: &mut Vec<RuleSet>,
+    name: Label,
+    rule: Rule,
+) -> Result<(), NoMemory>
+    requires ascending { IsTrue (ascends name_before (set_names sets.old.items)) }
+    requires few { length sets.old.items ≤ most_sets }
+    requires room { is_full_set (map written_set sets.old.items) (find (is_set_named name) (map written_set sets.old.items)) ≡ false }
+    requires later { IsTrue (are_before rule.line (map written_set sets.old.items)) }
+    ensures sets { OnOk result (map written_set sets.new.items ≡ with_rule name (written_rule rule) (map written_set sets.old.items)) }
+    ensures ascending { OnOk result (IsTrue (ascends name_before (set_names sets.new.items))) }
+    ensures few { OnOk result (length sets.new.items ≤ most_sets) }
+{
+    match set_place(sets.as_slice(), name.as_bytes()) {
+        Ok(place) => push_rule(&mut sets[place], rule),
+        Err(place) => {
+            sets.insert(place, set_of(alloc, name, rule)?)?;
+            Ok(())
+        }
+    }
+}
