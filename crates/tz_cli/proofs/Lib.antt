@@ -1,4 +1,7 @@
+pub mod Texts
 pub mod InfoLine
-pub mod Four
+pub mod FewWords
 pub mod Contents
-pub mod Exact
+pub mod ClockLine
+pub mod Once
+pub mod Due

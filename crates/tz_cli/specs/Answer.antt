@@ -1,46 +1,23 @@
--- What `info` answers over a text.
-use Rattle.std.specs.Prelude.{◌≡◌, ℕ, ◌<◌, ◌≤◌, ◌⊎◌, List, ℤ, Option, Some, None, IsSome, slice_get, length}
-use Rattle.tz_types.specs.declared.range.SysInfo.{SysInfo}
-use Rattle.tz_types.specs.declared.zone.Zone.{Zone}
-use Rattle.tz_types.specs.declared.database.Db.{Db}
-use Rattle.tz_specs.specs.Expansion.{IsInstant, periods_of, full_expansion, range_at}
-use Rattle.tz_specs.specs.Record.{Reads, IsUnbuilt}
-use Rattle.tz_lines.specs.Locate.{located}
-use Rattle.tz_cli.specs.Line.{range_line}
+-- What a command answers over the content that it reads.
+use Rattle.std.specs.Prelude.{◌≡◌, ℕ, ◌<◌, ◌≤◌, List, length, codes}
+use Rattle.tz_cli.specs.Command.{Command, Info, Check, Clock}
+use Rattle.tz_cli.specs.Info.{InfoAnswers}
+use Rattle.tz_cli.specs.Check.{CheckAnswers}
+use Rattle.tz_cli.specs.Clock.{ClockAnswers}
+use Rattle.tz_cli.specs.declared.status.Status.{Status}
+use Rattle.tz_cli.specs.declared.status.Status.TheVariants as statuses
 
 -- the most bytes of a text
 abbrev pub most_bytes : ℕ
 most_bytes = 4_194_304
 
--- The line is that of the range that holds the instant, in the full expansion of the zone named, of the text.
-pub record IsInfoLine (text name : List ℕ) (t : ℤ) (line : List ℕ) : Type 0 where
-  pub short : length text ≤ most_bytes
-  pub db : Db
-  pub reads : Reads text db
-  pub place : ℕ
-  pub named : located db name ≡ Some place
-  pub zone : Zone
-  pub there : slice_get db.zones place ≡ Some zone
-  pub range : SysInfo
-  pub inside : IsInstant t
-  pub holds : range_at (full_expansion (periods_of db zone)) t ≡ Some range
-  pub line_is : line ≡ range_line range
+-- the statuses of a command over a text, each with its line and its reason
+abbrev pub TextAnswers : Command → List ℕ → Status → List ℕ → Type 0
+TextAnswers (Info name zone instant) text status line = InfoAnswers text zone instant status line
+TextAnswers (Check name) text status line = CheckAnswers text status line
+TextAnswers (Clock name conversion number) text status line = ClockAnswers text conversion number status line
 
--- No zone and no link of the text has the name.
-pub record HasNoZone (text name : List ℕ) : Type 0 where
-  pub short : length text ≤ most_bytes
-  pub db : Db
-  pub reads : Reads text db
-  pub none : located db name ≡ None
-
--- The text has the zone, and the instant lies outside of time.
-pub record IsOutOfRange (text name : List ℕ) (t : ℤ) : Type 0 where
-  pub short : length text ≤ most_bytes
-  pub db : Db
-  pub reads : Reads text db
-  pub there : IsSome (located db name)
-  pub outside : ¬ (IsInstant t)
-
--- The text isn't built, or has more bytes than a text may have.
-abbrev pub IsRefused : List ℕ → Type 0
-IsRefused text = (most_bytes < length text) ⊎ IsUnbuilt text
+-- the same over any content: one that is too large for a text has that one answer
+abbrev pub IsAnswer : Command → List ℕ → Status → List ℕ → Type 0
+IsAnswer command content statuses.TooLarge line = (most_bytes < length content) × (line ≡ codes "toolarge\n")
+IsAnswer command content status line = (length content ≤ most_bytes) × TextAnswers command content status line

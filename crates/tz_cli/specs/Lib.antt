@@ -1,4 +1,10 @@
+pub mod Conversion
 pub mod Command
 pub mod Line
+pub mod Text
+pub mod Info
+pub mod Check
+pub mod Clock
 pub mod Answer
 pub mod Outcome
+pub mod Refusal

@@ -3,15 +3,17 @@ ghost use Rattle.std.specs.List.{list_all};
 ghost use Rattle.tz_specs.specs.Expansion.{IsInstant, range_at};
 ghost use Rattle.tz_expand.specs.Compiled.{is_plain};
 ghost use Rattle.tz_expand.specs.Zone.{expansion_of};
-ghost use Rattle.tz_cli.specs.Outcome.{Gives};
+ghost use Rattle.tz_cli.specs.Info.{InfoAnswers};
+ghost use Rattle.tz_cli.specs.Refusal.{Gives};
 
-use crate::Status;
 use crate::line::range_line;
+use crate::refusal::Refusal;
+use crate::text::database_of;
 use std::alloc::Global;
 use std::marker::Brand;
 use std::sync::ledger::{Blank, Ledger};
 use tz_expand::{CompiledZone, compile, info_at};
-use tz_lines::{ReadError, locate, read_zones};
+use tz_lines::locate;
 use tz_types::{Steps, SysInfo};
 
 /// The range of the zone that holds an instant, where nobody asks for the count of steps.
@@ -27,31 +29,28 @@ fn info_uncounted<L: Ledger>(zone: &CompiledZone, instant: i64, blank: Blank) ->
     info_at(zone, instant, &mut steps)
 }
 
-/// The line that `info` prints: that of the range of the zone which holds the instant. Else the status:
-/// `Text` where the text isn't built, `NoZone` where it has no such name, `Range` where the instant lies
-/// outside of time, and `Memory`.
-pub fn info_line(alloc: Global, text: &[u8], name: &[u8], instant: i64) -> Result<Vec<u8>, Status>
+/// The line that `info` prints: that of the range of the zone which holds the instant.
+pub fn info(alloc: Global, text: &[u8], name: &[u8], instant: i64) -> Result<Vec<u8>, Refusal>
     requires { length text.now ≤ 4_194_304 }
-    ensures { Gives result text.now name.now instant }
+    ensures { Gives (InfoAnswers text.now name.now instant) result }
 {
-    let db = match read_zones(alloc, text) {
+    let db = match database_of(alloc, text) {
         Ok(db) => db,
-        Err(ReadError::NoMemory) => return Err(Status::Memory),
-        Err(ReadError::Fault(_)) => return Err(Status::Text),
+        Err(refusal) => return Err(refusal),
     };
     let place = match locate(&db, name) {
         Some(place) => place,
-        None => return Err(Status::NoZone),
+        None => return Err(Refusal::NoZone),
     };
     let Ok(zone) = compile(alloc, &db, place) else {
-        return Err(Status::Memory);
+        return Err(Refusal::Memory);
     };
     let range = match info_uncounted::<Brand>(&zone, instant, Blank::new(1)) {
         Some(range) => range,
-        None => return Err(Status::Range),
+        None => return Err(Refusal::Range),
     };
     match range_line(alloc, &range) {
         Ok(line) => Ok(line),
-        Err(_) => Err(Status::Memory),
+        Err(_) => Err(Refusal::Memory),
     }
 }

@@ -1,12 +1,21 @@
 //! Commands: the words, the files and the printed line.
 //!
-//! `run_plain` does a whole command. So far there is one, `info TEXT ZONE T`, which prints the range of a zone
-//! that holds an instant.
+//! `run_plain` does a whole command: `info TEXT ZONE T` prints the range of a zone that holds an instant, `check TEXT`
+//! the counts of what a text has, and `clock LEAPS CONV X` a count of one clock by that of another. A command that is
+//! refused prints why.
 #![tactic(auto)]
 
+mod check;
+mod clock;
+mod command_line;
+mod conversion;
 mod info;
 mod line;
+mod printing;
+mod reading;
+mod refusal;
 mod status;
+mod text;
 mod top;
 mod words;
 

@@ -1,9 +1,11 @@
-ghost use Rattle.std.specs.Prelude.{◌≡◌, IfOk};
-ghost use Rattle.tz_cli.specs.Line.{shown, range_line};
+ghost use Rattle.std.specs.Prelude.{◌≡◌, ◌≤◌, ◌<◌, ◌*◌, ◌^◌, ◌++◌, codes, if◌then◌else◌, IfOk, OnOk};
+ghost use Rattle.std.specs.Fmt.{decimal};
+ghost use Rattle.tz_cli.specs.Line.{shown, range_line, number_line, leap_line, rule_count, check_line, fault_line};
 
 use std::alloc::Global;
+use tz_leap::LeapInfo;
 use tz_text::put_number;
-use tz_types::{Abbrev, NoMemory, SysInfo};
+use tz_types::{Abbrev, Db, Fault, NoMemory, SysInfo};
 
 /// An abbreviation, and `""` where it has no bytes.
 fn shown(abbreviation: &Abbrev) -> &[u8]
@@ -30,6 +32,85 @@ pub fn range_line(alloc: Global, range: &SysInfo) -> Result<Vec<u8>, NoMemory>
     put_number(&mut line, range.save)?;
     line.extend_from_slice(b" ")?;
     line.extend_from_slice(shown(&range.abbrev))?;
+    line.extend_from_slice(b"\n")?;
+    Ok(line)
+}
+
+/// The line of a number.
+pub fn number_line(alloc: Global, number: i64) -> Result<Vec<u8>, NoMemory>
+    ensures { IfOk result (λ line. line.items ≡ number_line number) }
+{
+    let mut line = Vec::new(alloc);
+    put_number(&mut line, number)?;
+    line.extend_from_slice(b"\n")?;
+    Ok(line)
+}
+
+/// The word for an inserted second, and that for another.
+fn leap_word(is_leap: bool) -> &'static [u8]
+    ensures { result.now ≡ (if is_leap then codes "leap " else codes "plain ") }
+{
+    if is_leap { b"leap " } else { b"plain " }
+}
+
+/// The line of what there is to know of a UTC count.
+#[tactic(auto, unfolding(crate::specs::Line::leap_line))]
+pub fn leap_line(alloc: Global, info: LeapInfo) -> Result<Vec<u8>, NoMemory>
+    ensures { IfOk result (λ line. line.items ≡ leap_line info.is_leap info.elapsed) }
+{
+    let mut line = leap_word(info.is_leap).to_vec(alloc)?;
+    put_number(&mut line, info.elapsed)?;
+    line.extend_from_slice(b"\n")?;
+    Ok(line)
+}
+
+/// How many rules the database has, in all its sets.
+fn rule_count(db: &Db) -> usize
+    ensures count { result ≡ rule_count db.now }
+    ensures bound { result ≤ 1_024 * 512 }
+{
+    let mut count = 0;
+    for set in db.sets.as_slice() {
+        count += set.get().rules.len();
+    }
+    count
+}
+
+/// Puts a count at the end of a line.
+fn put_count(line: &mut Vec<u8>, count: usize) -> Result<(), NoMemory>
+    requires { count < 2 ^ 63 }
+    ensures { OnOk result (line.new.items ≡ line.old.items ++ decimal count) }
+{
+    put_number(line, count as i64)
+}
+
+/// The line of a database: its version, and how many rules, zones and links it has.
+#[tactic(auto, unfolding(crate::specs::Line::check_line))]
+pub fn check_line(alloc: Global, db: &Db) -> Result<Vec<u8>, NoMemory>
+    ensures { IfOk result (λ line. line.items ≡ check_line db.now) }
+{
+    let mut line = b"ok ".to_vec(alloc)?;
+    line.extend_from_slice(db.version.as_bytes())?;
+    line.extend_from_slice(b" rules ")?;
+    put_count(&mut line, rule_count(db))?;
+    line.extend_from_slice(b" zones ")?;
+    put_count(&mut line, db.zones.len())?;
+    line.extend_from_slice(b" links ")?;
+    put_count(&mut line, db.links.len())?;
+    line.extend_from_slice(b"\n")?;
+    Ok(line)
+}
+
+/// The line of a fault, behind a word.
+#[tactic(auto, unfolding(crate::specs::Line::fault_line))]
+pub fn fault_line(alloc: Global, word: &[u8], fault: Fault) -> Result<Vec<u8>, NoMemory>
+    ensures { IfOk result (λ line. line.items ≡ fault_line word.now fault) }
+{
+    let mut line = word.to_vec(alloc)?;
+    line.extend_from_slice(b" ")?;
+    put_number(&mut line, i64::from(fault.line))?;
+    line.extend_from_slice(b" ")?;
+    put_number(&mut line, i64::from(fault.cause))?;
     line.extend_from_slice(b"\n")?;
     Ok(line)
 }

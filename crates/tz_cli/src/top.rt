@@ -1,109 +1,117 @@
-ghost use Rattle.std.specs.Prelude.{◌≡◌, ◌≢◌, ◌↔◌, ◌⊎◌, ◌≤◌, ℕ, List, Option, length};
+ghost use Rattle.std.specs.Prelude.{◌≡◌, ◌≢◌, ◌⊎◌, ◌≤◌, ℕ, List, Some, length, IsSomeAnd};
 ghost use Rattle.tz_io.specs.Counts.{Rose};
-ghost use Rattle.tz_cli.specs.Command.{Info, IsInfo};
-ghost use Rattle.tz_cli.specs.Answer.{HasNoZone, IsOutOfRange, IsRefused};
-ghost use Rattle.tz_cli.specs.Outcome.{words_of, OfContent, OfInfo, Prints, PrintsPart, IsExact};
+ghost use Rattle.tz_io.specs.Sink.{Appends, AppendsPart};
+ghost use Rattle.tz_cli.specs.Command.{Command, IsCommand, IsNoCommand, words_of, source, meant};
+ghost use Rattle.tz_cli.specs.Answer.{TextAnswers, IsAnswer};
+ghost use Rattle.tz_cli.specs.Outcome.{told_content, Failed, IsDueFor, IsDue};
+ghost use Rattle.tz_cli.specs.Refusal.{Gives};
 ghost use Rattle.tz_cli.specs.declared.status.Status.{Status};
 
-use crate::info::info_line;
-use crate::words::info_words;
+use crate::check::check;
+use crate::clock::clock;
+use crate::command_line::CommandLine;
+use crate::info::info;
+use crate::printing::{print, print_refusal};
+use crate::reading::content_of;
+use crate::refusal::Refusal;
+use crate::words::command_of;
 use crate::{Plain, Status};
 use std::alloc::Global;
-use tz_io::{FileError, Files, Sink, put_all};
+use tz_io::{Files, Sink};
 
-/// The most bytes of a text.
-const MOST_BYTES: usize = 4_194_304;
-
-/// Does `info` with a text's name, a zone's name and an instant.
-fn run_info<F: Files, S: Sink>(
-    alloc: Global,
-    name: &str,
-    zone: &str,
-    instant: i64,
-    files: &mut F,
-    sink: &mut S,
-) -> Status
-    ensures ok { result ≡ Status.Ok → OfContent (F.told files.old) name.now (Prints (S.taken sink.old) (S.taken sink.new) zone.now instant) }
-    ensures write { result ≡ Status.Write → OfContent (F.told files.old) name.now (PrintsPart (S.taken sink.old) (S.taken sink.new) zone.now instant) }
-    ensures write_count { result ≡ Status.Write → Rose (S.faults sink.old) (S.faults sink.new) ⊎ Rose (S.stalls sink.old) (S.stalls sink.new) }
-    ensures silent { result ≢ Status.Ok → result ≢ Status.Write → S.taken sink.new ≡ S.taken sink.old }
-    ensures text { result ≡ Status.Text → OfContent (F.told files.old) name.now IsRefused }
-    ensures read { result ≡ Status.Read → Rose (F.faults files.old name.now) (F.faults files.new name.now) }
-    ensures no_zone { result ≡ Status.NoZone → OfContent (F.told files.old) name.now (λ text. HasNoZone text zone.now) }
-    ensures range { result ≡ Status.Range → OfContent (F.told files.old) name.now (λ text. IsOutOfRange text zone.now instant) }
-    ensures never { (result ≢ Status.Usage) × (result ≢ Status.Script) × (result ≢ Status.Local) × (result ≢ Status.TooLarge) }
-    ensures told { F.told files.new ≡ F.told files.old }
+/// What a command comes to over a text.
+fn answer_over(alloc: Global, command: CommandLine<'_>, text: &[u8]) -> Result<Vec<u8>, Refusal>
+    requires { length text.now ≤ 4_194_304 }
+    ensures { Gives (TextAnswers (meant command.entry) text.now) result }
 {
-    let text = match files.read(alloc, name, MOST_BYTES) {
-        Ok(text) => text,
-        Err(FileError::NoMemory) => return Status::Memory,
-        Err(FileError::Failed) => return Status::Read,
-    };
-    if text.len() > MOST_BYTES {
-        return Status::Text;
-    }
-    let line = match info_line(alloc, text.as_slice(), zone.as_bytes(), instant) {
-        Ok(line) => line,
-        Err(status) => return status,
-    };
-    match put_all(sink, line.as_slice()) {
-        Ok(()) => Status::Ok,
-        Err(_) => Status::Write,
+    match command {
+        CommandLine::Info { zone, instant, .. } => info(alloc, text, zone.as_bytes(), instant),
+        CommandLine::Check { .. } => check(alloc, text),
+        CommandLine::Clock {
+            conversion,
+            number,
+            ..
+        } => clock(alloc, text, conversion, number),
     }
 }
 
-/// Does a whole command, and answers its status. So far every command but `info TEXT ZONE T` is refused as
-/// `Usage`. At `Ok` the line of the range that holds T was written, and else nothing, but for `Write`, where
-/// a part of that line was.
+/// What a command comes to.
+fn answer<F: Files>(
+    alloc: Global,
+    command: CommandLine<'_>,
+    files: &mut F,
+) -> Result<Vec<u8>, Refusal>
+    ensures due { Gives (IsDueFor (meant command.entry) (F.told files.old) (Failed (F.faults files.old) (F.faults files.new))) result }
+    ensures told { F.told files.new ≡ F.told files.old }
+{
+    match content_of(alloc, command, files) {
+        Ok(text) => answer_over(alloc, command, text.as_slice()),
+        Err(refusal) => Err(refusal),
+    }
+}
+
+/// Does a command: prints its text or the line of its refusal, and answers the status.
+fn run_command<F: Files, S: Sink>(
+    alloc: Global,
+    command: CommandLine<'_>,
+    files: &mut F,
+    sink: &mut S,
+) -> Status
+    ensures whole { result ≢ Status.Write →
+        (line : List ℕ) × IsDueFor (meant command.entry) (F.told files.old) (Failed (F.faults files.old) (F.faults files.new)) result line
+        × Appends (S.taken sink.old) (S.taken sink.new) line }
+    ensures part { result ≡ Status.Write →
+        (status : Status) × (line : List ℕ)
+        × IsDueFor (meant command.entry) (F.told files.old) (Failed (F.faults files.old) (F.faults files.new)) status line
+        × AppendsPart (S.taken sink.old) (S.taken sink.new) line }
+    ensures write { result ≡ Status.Write → Rose (S.faults sink.old) (S.faults sink.new) ⊎ Rose (S.stalls sink.old) (S.stalls sink.new) }
+    ensures told { F.told files.new ≡ F.told files.old }
+{
+    match answer(alloc, command, files) {
+        Ok(line) => print(sink, line.as_slice(), Status::Ok),
+        Err(refusal) => print_refusal(alloc, refusal, sink),
+    }
+}
+
+/// Does a whole command, `info`, `check` or `clock`, and answers its status. It prints one line: the text of the
+/// command at `Ok`, and else the line of the refusal. At `Write` a part of that line was taken.
 pub fn run_plain<F: Files, S: Sink>(
     alloc: Global,
     words: &[String],
     files: &mut F,
     sink: &mut S,
 ) -> Plain
-    // 0: the sink's new bytes are the line of the range, in the full expansion of the zone named.
-    ensures ok { result ≡ Plain.Done Status.Ok → OfInfo (words_of words.now) (F.told files.old)
-        (λ command. Prints (S.taken sink.old) (S.taken sink.new) command.zone command.instant) }
+    // All that was printed is the line that is due at the status, and the status has its reason: 0, 3, 8 and 9 in the
+    // text, 11 in the size of the file, 5 in a fault of the file that was counted in this call.
+    ensures whole { (status : Status) → result ≡ Plain.Done status → status ≢ Status.Write →
+        (line : List ℕ) × IsDue (words_of words.now) (F.told files.old) (Failed (F.faults files.old) (F.faults files.new)) status line
+        × Appends (S.taken sink.old) (S.taken sink.new) line }
 
-    // 2: exactly where the words are those of no command. Want of memory never hides that.
-    ensures usage { (result ≡ Plain.Done Status.Usage) ↔ ((command : Info) → ¬ (IsInfo (words_of words.now) command)) }
-
-    // 3: the text isn't built, or has more bytes than a text may have.
-    ensures text { result ≡ Plain.Done Status.Text → OfInfo (words_of words.now) (F.told files.old) (λ command. IsRefused) }
-
-    // 5: a fault of the file that the words name was counted in this call.
-    ensures read { result ≡ Plain.Done Status.Read → (command : Info) × IsInfo (words_of words.now) command
-        × Rose (F.faults files.old command.text) (F.faults files.new command.text) }
-
-    // 6: a fault of the sink or a stall was counted in this call, and a part of the line was written.
+    // 6: a fault of the sink or a stall was counted in this call, and a part of a line that is due was printed.
     ensures write { result ≡ Plain.Done Status.Write → Rose (S.faults sink.old) (S.faults sink.new) ⊎ Rose (S.stalls sink.old) (S.stalls sink.new) }
-    ensures part { result ≡ Plain.Done Status.Write → OfInfo (words_of words.now) (F.told files.old)
-        (λ command. PrintsPart (S.taken sink.old) (S.taken sink.new) command.zone command.instant) }
+    ensures part { result ≡ Plain.Done Status.Write →
+        (status : Status) × (line : List ℕ)
+        × IsDue (words_of words.now) (F.told files.old) (Failed (F.faults files.old) (F.faults files.new)) status line
+        × AppendsPart (S.taken sink.old) (S.taken sink.new) line }
 
-    // 8 and 9: the text has no such name, or it has and the instant lies outside of time.
-    ensures no_zone { result ≡ Plain.Done Status.NoZone → OfInfo (words_of words.now) (F.told files.old) (λ command text. HasNoZone text command.zone) }
-    ensures range { result ≡ Plain.Done Status.Range → OfInfo (words_of words.now) (F.told files.old) (λ command text. IsOutOfRange text command.zone command.instant) }
+    // 2: exactly where the words match no form, and want of memory never hides it: only the sink may.
+    ensures usage { result ≡ Plain.Done Status.Usage → IsNoCommand (words_of words.now) }
+    ensures no_command { IsNoCommand (words_of words.now) → (result ≡ Plain.Done Status.Usage) ⊎ (result ≡ Plain.Done Status.Write) }
 
-    // Where no fault and no stall was counted, 0, 3, 8 and 9 come exactly for these reasons, but for want of memory.
-    ensures exact { (command : Info) (contents : List ℕ → Option (List ℕ)) (content : List ℕ) → IsInfo (words_of words.now) command →
-        F.told files.old ≡ Some contents → contents command.text ≡ Some content → ¬ (Rose (F.faults files.old command.text) (F.faults files.new command.text)) →
+    // Where no fault and no stall was counted, an answer over the content has its status, but for want of memory.
+    ensures exact { (command : Command) (content : List ℕ) (status : Status) (line : List ℕ) →
+        IsCommand (words_of words.now) command → told_content (F.told files.old) (source command) ≡ Some content →
+        IsAnswer command content status line →
+        ¬ (IsSomeAnd (source command) (Failed (F.faults files.old) (F.faults files.new))) →
         ¬ (Rose (S.faults sink.old) (S.faults sink.new)) → ¬ (Rose (S.stalls sink.old) (S.stalls sink.new)) →
-        (status : Status) → result ≡ Plain.Done status → IsExact content command.zone command.instant status }
+        (result ≡ Plain.Done status) ⊎ (result ≡ Plain.Done Status.Memory) }
 
-    // No other answer comes, a refusal writes nothing, and the files stay as they were.
-    ensures never { (result ≢ Plain.Shared) × (result ≢ Plain.Done Status.Script) × (result ≢ Plain.Done Status.Local) × (result ≢ Plain.Done Status.TooLarge) }
-    ensures silent { result ≢ Plain.Done Status.Ok → result ≢ Plain.Done Status.Write → S.taken sink.new ≡ S.taken sink.old }
+    // No command is left to shared lists, 4 and 10 don't come, and the files stay as they were.
+    ensures never { (result ≢ Plain.Shared) × (result ≢ Plain.Done Status.Script) × (result ≢ Plain.Done Status.Local) }
     ensures told { F.told files.new ≡ F.told files.old }
 {
-    match info_words(words) {
-        Some(words) => Plain::Done(run_info(
-            alloc,
-            words.text,
-            words.zone,
-            words.instant,
-            files,
-            sink,
-        )),
-        None => Plain::Done(Status::Usage),
+    match command_of(words) {
+        Some(command) => Plain::Done(run_command(alloc, command, files, sink)),
+        None => Plain::Done(print(sink, b"usage\n", Status::Usage)),
     }
 }

@@ -1,21 +1,15 @@
-ghost use Rattle.std.specs.Prelude.{◌≡◌, IsNone, IfSome, ◌↔◌, IsSome, string_bytes};
-ghost use Rattle.tz_cli.specs.Command.{Info, IsInfo};
-ghost use Rattle.tz_cli.specs.Outcome.{words_of};
+ghost use Rattle.std.specs.Prelude.{ℕ, List, ℤ, IsNone, IfSome};
+ghost use Rattle.tz_cli.specs.Command.{IsInfo, IsCheck, IsClock, IsCommand, IsNoCommand, words_of, meant};
+ghost use Rattle.tz_cli.specs.declared.conversion.Conversion.{Conversion};
 
+use crate::command_line::CommandLine;
+use crate::conversion::Conversion;
 use tz_text::signed_number;
 
-/// The words of `info TEXT ZONE T`.
-#[derive(Clone, Copy)]
-pub struct InfoWords<'w> {
-    pub text: &'w str,
-    pub zone: &'w str,
-    pub instant: i64,
-}
-
-/// The words of `info`. None comes exactly where the words aren't those of that command.
-pub fn info_words(words: &[String]) -> Option<InfoWords<'_>>
-    ensures some { IfSome result (λ it. IsInfo (words_of words.now) (record { text = it.text.now; zone = it.zone.now; instant = it.instant })) }
-    ensures none { IsNone result → (command : Info) → ¬ (IsInfo (words_of words.now) command) }
+/// `info TEXT ZONE T`.
+fn info(words: &[String]) -> Option<CommandLine<'_>>
+    ensures some { IfSome result (λ command. IsCommand (words_of words.now) (meant command)) }
+    ensures none { IsNone result → (text zone : List ℕ) (instant : ℤ) → ¬ (IsInfo (words_of words.now) text zone instant) }
 {
     match words {
         [keyword, text, zone, number] => {
@@ -23,7 +17,7 @@ pub fn info_words(words: &[String]) -> Option<InfoWords<'_>>
                 return None;
             }
             match signed_number(number.as_bytes()) {
-                Some(instant) => Some(InfoWords {
+                Some(instant) => Some(CommandLine::Info {
                     text: text.as_str(),
                     zone: zone.as_str(),
                     instant,
@@ -33,4 +27,62 @@ pub fn info_words(words: &[String]) -> Option<InfoWords<'_>>
         }
         _ => None,
     }
+}
+
+/// `check TEXT`.
+fn check(words: &[String]) -> Option<CommandLine<'_>>
+    ensures some { IfSome result (λ command. IsCommand (words_of words.now) (meant command)) }
+    ensures none { IsNone result → (text : List ℕ) → ¬ (IsCheck (words_of words.now) text) }
+{
+    match words {
+        [keyword, text] => {
+            if keyword.as_str() != "check" {
+                return None;
+            }
+            Some(CommandLine::Check {
+                text: text.as_str(),
+            })
+        }
+        _ => None,
+    }
+}
+
+/// `clock LEAPS CONV X`.
+fn clock(words: &[String]) -> Option<CommandLine<'_>>
+    ensures some { IfSome result (λ command. IsCommand (words_of words.now) (meant command)) }
+    ensures none { IsNone result → (leaps : List ℕ) (conversion : Conversion) (count : ℤ) → ¬ (IsClock (words_of words.now) leaps conversion count) }
+{
+    match words {
+        [keyword, leaps, conversion, number] => {
+            if keyword.as_str() != "clock" {
+                return None;
+            }
+            let Some(conversion) = Conversion::from_word(conversion.as_str()) else {
+                return None;
+            };
+            match signed_number(number.as_bytes()) {
+                Some(number) => Some(CommandLine::Clock {
+                    leaps: leaps.as_str(),
+                    conversion,
+                    number,
+                }),
+                None => None,
+            }
+        }
+        _ => None,
+    }
+}
+
+/// The command that the words stand for. None comes exactly where they match no form. It takes no memory.
+pub fn command_of(words: &[String]) -> Option<CommandLine<'_>>
+    ensures some { IfSome result (λ command. IsCommand (words_of words.now) (meant command)) }
+    ensures none { IsNone result → IsNoCommand (words_of words.now) }
+{
+    if let Some(command) = info(words) {
+        return Some(command);
+    }
+    if let Some(command) = check(words) {
+        return Some(command);
+    }
+    clock(words)
 }

@@ -19,10 +19,8 @@ fn words(rt: &(impl Env + AllocGlobal)) -> io::Result<Vec<String>> {
 fn main(rt: HostRuntime) -> ExitCode {
     let words = match words(&rt) {
         Ok(words) => words,
-        // A word that isn't UTF-8 is no word of any command.
-        Err(error) if error.kind() == io::ErrorKind::InvalidData => {
-            return ExitCode::from(Status::Usage.code());
-        }
+        // A word that isn't UTF-8 is no word of any command, so the line is refused as one without words is.
+        Err(error) if error.kind() == io::ErrorKind::InvalidData => Vec::new(rt.alloc()),
         Err(_) => return ExitCode::from(Status::Memory.code()),
     };
     let mut files = RealFiles::new(&rt);

@@ -1,42 +1,32 @@
-use Rattle.std.proofs.Common.{◌≡◌, ℕ, List, Option, Some, refl, sym, ap, ◌∙◌, inl, inr, ⊎_elim, rules, FitsSigned, ℤ}
-use Rattle.std.specs.Int.{w64}
-use Rattle.std.proofs.lemmas.Int.{to_z-of_z}
-use Rattle.tz_io.specs.Counts.{Rose}
-use Rattle.tz_cli.specs.Answer.{IsInfoLine, HasNoZone, IsOutOfRange, IsRefused}
-use Rattle.tz_cli.specs.Outcome.{Prints, words_of, IsExact}
-use Rattle.tz_cli.specs.declared.status.Status.{Status}
+use Rattle.std.proofs.Common.{◌≡◌, codes, inl, inr, refl, ap, ⊎_elim, rules}
+use Rattle.tz_cli.specs.Command.{meant, words_of}
+use Rattle.tz_cli.specs.Outcome.{Failed}
+use Rattle.tz_cli.specs.declared.status.Status.TheVariants as statuses
 use Rattle.tz_cli.specs.declared.status.Plain.TheVariants.{Done}
-use Rattle.tz_cli.proofs.Exact.{Told, exactly, told_of, one_command}
+use Rattle.tz_cli.proofs.Once.{one_command}
+use Rattle.tz_cli.proofs.Due.{for_words, one_due}
 use Rattle.tz_cli.proofs.top.run_plain.Goals as goal
 
-pub returns-in-None-clause-usage : goal.returns-in-None-clause-usage
-returns-in-None-clause-usage g c = (λ _. c.in-None.ensures.none (search rules), λ _. refl)
+pub returns-in-Some-clause-part : goal.returns-in-Some-clause-part
+returns-in-Some-clause-part g c = λ is.
+    let told = g.F.Files.told c.args.files.now in
+    let failed = Failed (g.F.Files.faults c.args.files.now) (g.F.Files.faults c.run_command.new.files) in
+    let ended : c.run_command.result ≡ statuses.Write = cc in
+    let part = c.run_command.ensures.part ended in
+    let due = for_words (words_of c.args.words.now) told failed (meant c.in-Some.command) part.0 part.1 c.in-Some.ensures.some part.2 in
+    (part.0, part.1, due, part.3)
 
-pub returns-in-None-clause-exact : goal.returns-in-None-clause-exact
-returns-in-None-clause-exact g c = λ command contents content is told has f s l status e.
-    absurd (c.in-None.ensures.none (search rules) command is)
+pub returns-in-None-clause-part : goal.returns-in-None-clause-part
+returns-in-None-clause-part g c = λ is.
+    let ended : c.print.result ≡ statuses.Write = cc in
+    (statuses.Usage, codes "usage\n", (c.in-None.ensures.none (search rules), refl), c.print.ensures.part ended)
 
 pub returns-in-Some-clause-exact : goal.returns-in-Some-clause-exact
-returns-in-Some-clause-exact g c = λ command contents content is told has no_fault no_sink_fault no_stall status e.
-    let words = c.in-Some.words in
-    let fits : FitsSigned w64 words.instant = search rules in
-    let same = one_command (words_of c.args.words.now) command (record { text = words.text.now; zone = words.zone.now; instant = words.instant }) is c.in-Some.ensures.some in
-    let there : contents words.text.now ≡ Some content = rw same.0 at has in
-    let ended : c.run_info.result ≡ status = cc in
+returns-in-Some-clause-exact g c = λ command content status line is told answer fine no_fault no_stall.
     let files = g.F.Files.told c.args.files.now in
-    let of = told_of files contents words.text.now content in
-    let prints = simp to_z-of_z at c.run_info.ensures.ok in
-    let ranges = simp to_z-of_z at c.run_info.ensures.range in
-    let rises : Rose (g.F.Files.faults c.args.files.now words.text.now) (g.F.Files.faults c.run_info.new.files words.text.now) → ⊥ = rw same.0 at no_fault in
-    rw (same.1, same.2, ← ended) (exactly content words.zone.now words.instant c.run_info.result (record {
-      refused = λ t. of IsRefused told there (c.run_info.ensures.text t);
-      no_zone = λ n. of (λ text. HasNoZone text words.zone.now) told there (c.run_info.ensures.no_zone n);
-      out_of_range = λ r. of (λ text. IsOutOfRange text words.zone.now words.instant) told there (ranges r);
-      printed = λ o. let line = of (Prints (g.S.Sink.taken c.args.sink.now) (g.S.Sink.taken c.run_info.new.sink) words.zone.now words.instant) told there (prints o) in (line.0, line.1);
-      no_read = λ r. rises (c.run_info.ensures.read r);
-      no_write = λ w. ⊎_elim no_sink_fault no_stall (c.run_info.ensures.write_count w);
-      no_usage = c.run_info.ensures.never.0;
-      no_script = c.run_info.ensures.never.1;
-      no_local = c.run_info.ensures.never.2;
-      no_too_large = c.run_info.ensures.never.3;
-    }))
+    let failed = Failed (g.F.Files.faults c.args.files.now) (g.F.Files.faults c.run_command.new.files) in
+    let ended = c.run_command.result in
+    let whole = c.run_command.ensures.whole (λ write. ⊎_elim no_fault no_stall (c.run_command.ensures.write write)) in
+    let same = one_command (words_of c.args.words.now) (meant c.in-Some.command) command c.in-Some.ensures.some is in
+    let due = rw same at whole.1 in
+    ⊎_elim (λ (e : ended ≡ status). inl (ap Done e)) (λ (e : ended ≡ statuses.Memory). inr (ap Done e)) (one_due command files failed content status ended line whole.0 told answer fine due)

@@ -1,6 +1,13 @@
--- Lists of four words.
-use Rattle.std.proofs.Common.{◌≡◌, Bool, true, false, not, bytes_eq, ℕ, suc, List, [], ◌∷◌, length, map, get_or, refl, arith}
+-- Lists of a few words.
+use Rattle.std.proofs.Common.{◌≡◌, Bool, true, false, not, bytes_eq, ℕ, List, [], ◌∷◌, length, get_or, refl, arith}
 use Rattle.std.proofs.lemmas.Slice.Eq.{bytes_eq-Decides}
+
+-- a list of two elements is those at its two places
+pub two : {A : Type 0} (xs : List A) (a b : A) → length xs ≡ 2 → a ≡ get_or xs 0 a → b ≡ get_or xs 1 b → xs ≡ a ∷ b ∷ []
+two [] a b h p q = absurd (omega arith)
+two (w ∷ []) a b h p q = absurd (omega arith)
+two (w ∷ x ∷ []) a b h p q = cc
+two (w ∷ x ∷ y ∷ xs) a b h p q = absurd (omega arith)
 
 -- a list of four elements is those at its four places
 pub four : {A : Type 0} (xs : List A) (a b c d : A) → length xs ≡ 4 → a ≡ get_or xs 0 a → b ≡ get_or xs 1 b → c ≡ get_or xs 2 c → d ≡ get_or xs 3 d → xs ≡ a ∷ b ∷ c ∷ d ∷ []

@@ -1,10 +1,9 @@
-use Rattle.std.proofs.Common.{◌≡◌, ℕ, List, [], ◌∷◌, length, map, Some, codes, string_bytes, String, sym, ap, ◌∙◌, rules, FitsSigned, arith}
+use Rattle.std.proofs.Common.{◌≡◌, ℕ, List, [], ◌∷◌, length, codes, string_bytes, sym, ap, ◌∙◌, rules, FitsSigned, arith}
 use Rattle.std.specs.Int.{w64}
-use Rattle.std.specs.declared.alloc.Global.{Global}
 use Rattle.std.proofs.lemmas.Int.{to_z-of_z}
-use Rattle.tz_cli.specs.Outcome.{words_of}
-use Rattle.tz_cli.proofs.Four.{four, alike}
-use Rattle.tz_cli.proofs.words.info_words.Goals as goal
+use Rattle.tz_cli.specs.Command.{words_of}
+use Rattle.tz_cli.proofs.FewWords.{four, alike}
+use Rattle.tz_cli.proofs.words.info.Goals as goal
 
 pub returns-in-Some-clause-some : goal.returns-in-Some-clause-some
 returns-in-Some-clause-some c =
@@ -21,5 +20,5 @@ returns-in-Some-clause-some c =
     rw (to_z-of_z, c.as_str-in-Some.ensures.value, c.as_str-in-Some-2.ensures.value) (record {
       number = string_bytes number;
       words_are = ap words_of all ∙ ap (λ (word : List ℕ). word ∷ string_bytes text ∷ string_bytes zone ∷ string_bytes number ∷ []) first;
-      instant_is = sym (rw c.as_bytes.ensures.value at c.in-Some.ensures.value);
+      number_is = sym (rw c.as_bytes.ensures.value at c.in-Some.ensures.value);
     })

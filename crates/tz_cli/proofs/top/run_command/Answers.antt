@@ -1,0 +1,21 @@
+use Rattle.std.proofs.Common.{codes, inl, inr, refl}
+use Rattle.tz_cli.specs.Command.{meant}
+use Rattle.tz_cli.specs.Outcome.{Failed}
+use Rattle.tz_cli.specs.Refusal.{refusal_status, refusal_line}
+use Rattle.tz_cli.specs.declared.status.Status.TheVariants as statuses
+use Rattle.tz_cli.proofs.Due.{refusal_due}
+use Rattle.tz_cli.proofs.top.run_command.Goals as goal
+
+pub returns-in-Ok-clause-part : goal.returns-in-Ok-clause-part
+returns-in-Ok-clause-part g c = λ is.
+    let part = rw c.as_slice.ensures.value at c.print.ensures.part is in
+    (statuses.Ok, c.in-Ok.line.items, c.in-Ok.ensures.due, part)
+
+pub returns-in-Err-clause-part : goal.returns-in-Err-clause-part
+returns-in-Err-clause-part g c = λ is.
+    let refusal = c.in-Err.refusal in
+    let due = refusal_due (meant c.args.command) (g.F.Files.told c.args.files.now) (Failed (g.F.Files.faults c.args.files.now) (g.F.Files.faults c.answer.new.files)) refusal c.in-Err.ensures.due in
+    elim (c.print_refusal.ensures.part is) [
+      | inl part ↦ (refusal_status refusal, refusal_line refusal, due, part)
+      | inr part ↦ (statuses.Memory, codes "memory\n", refl, part)
+    ]

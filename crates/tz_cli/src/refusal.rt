@@ -1,0 +1,53 @@
+ghost use Rattle.std.specs.Prelude.{◌≡◌, IfOk};
+ghost use Rattle.tz_cli.specs.Refusal.{refusal_status, refusal_line};
+
+use crate::Status;
+use crate::line::fault_line;
+use std::alloc::Global;
+use tz_types::{Fault, NoMemory};
+
+/// Why a command has no text.
+#[derive(Clone, Copy, Debug, PartialEq, Eq)]
+pub enum Refusal {
+    Read,
+    TooLarge,
+    /// The text is refused.
+    Text(Fault),
+    /// The leap text is refused.
+    Leaps(Fault),
+    NoZone,
+    Range,
+    Memory,
+}
+
+impl Refusal {
+    /// The status with which the command ends.
+    pub fn status(self) -> Status
+        ensures { result ≡ refusal_status self }
+    {
+        match self {
+            Refusal::Read => Status::Read,
+            Refusal::TooLarge => Status::TooLarge,
+            Refusal::Text(_) | Refusal::Leaps(_) => Status::Text,
+            Refusal::NoZone => Status::NoZone,
+            Refusal::Range => Status::Range,
+            Refusal::Memory => Status::Memory,
+        }
+    }
+
+    /// The line that the command prints.
+    pub fn line(self, alloc: Global) -> Result<Vec<u8>, NoMemory>
+        ensures { IfOk result (λ line. line.items ≡ refusal_line self) }
+    {
+        let word = match self {
+            Refusal::Text(fault) => return fault_line(alloc, b"text", fault),
+            Refusal::Leaps(fault) => return fault_line(alloc, b"leaps", fault),
+            Refusal::Read => b"read\n".as_slice(),
+            Refusal::TooLarge => b"toolarge\n".as_slice(),
+            Refusal::NoZone => b"nozone\n".as_slice(),
+            Refusal::Range => b"range\n".as_slice(),
+            Refusal::Memory => b"memory\n".as_slice(),
+        };
+        Ok(word.to_vec(alloc)?)
+    }
+}
