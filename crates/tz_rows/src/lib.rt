@@ -1,5 +1,15 @@
-//! Tests that cross crates: worked rows of commands, over files and a sink in memory.
+//! Tests that cross crates: worked rows of commands, over files and a sink in memory, and real texts.
 #![tactic(auto)]
 
 #[cfg(test)]
-mod tests;
+mod outside;
+#[cfg(test)]
+mod real_texts;
+#[cfg(test)]
+mod rows;
+#[cfg(test)]
+mod sizes;
+#[cfg(test)]
+mod texts;
+#[cfg(test)]
+mod zone_texts;

@@ -1,0 +1,33 @@
+//! Commands over files and a sink in memory.
+use std::alloc::{AllocError, Global};
+use tz_cli::{Plain, run_plain};
+use tz_io::{MemoryFiles, MemorySink};
+use tz_types::NoMemory;
+
+/// Files of these names and contents.
+pub fn files_of(alloc: Global, list: Vec<(String, Vec<u8>)>) -> Result<MemoryFiles, AllocError> {
+    match MemoryFiles::new(alloc, list, Vec::new(alloc)) {
+        Ok(files) => Ok(files),
+        Err(NoMemory) => Err(AllocError),
+    }
+}
+
+/// What a command answers over the files, and what it writes into a sink that takes `piece` bytes a write and `room`
+/// in all.
+pub fn run(
+    alloc: Global,
+    files: &mut MemoryFiles,
+    line: &str,
+    piece: usize,
+    room: usize,
+) -> Result<(Plain, Vec<u8>), AllocError> {
+    let mut words = Vec::new(alloc);
+    for word in line.split_whitespace() {
+        words.push(format!(in alloc; "{word}")?)?;
+    }
+    let Ok(mut sink) = MemorySink::new(alloc, piece, room, Vec::new(alloc)) else {
+        return Err(AllocError);
+    };
+    let answer = run_plain(alloc, words.as_slice(), files, &mut sink);
+    Ok((answer, sink.taken().to_vec(alloc)?))
+}

@@ -1,0 +1,127 @@
+//! Texts that the machine may have. Where it has none, nothing is tested.
+use std::fs;
+use std::process::Abort;
+use std::test::Fail;
+use tz_lines::{ReadError, read_leaps, read_zones};
+use tz_text::{Fields, Joined, amount, named, on, year};
+use tz_types::Fault;
+
+/// A text in the compact spelling.
+const ZONES: &str = "/usr/share/zoneinfo/tzdata.zi";
+
+/// The leap seconds.
+const LEAPS: &str = "/usr/share/zoneinfo/leapseconds";
+
+const MONTHS: &[u8] =
+    b"January February March April May June July August September October November December";
+
+/// Whether the line is a rule of the compact spelling, `R NAME FROM TO - IN ON AT SAVE LETTER`.
+fn is_rule(fields: &Fields<'_>) -> bool {
+    fields.count() > 0 && fields.get(0) == b"R".as_slice()
+}
+
+fn has_values(rt: &impl Abort, fields: &Fields<'_>, line: &str) {
+    assert_eq!(rt; fields.count(), 10, "{line}");
+    assert!(rt; year(fields.get(2)).is_some(), "FROM of {line}");
+    assert!(rt; named(fields.get(5), MONTHS).is_some(), "IN of {line}");
+    assert!(rt; on(fields.get(6)).is_some(), "ON of {line}");
+    assert!(rt; amount(fields.get(7), b"wsugz").is_some(), "AT of {line}");
+    assert!(rt; amount(fields.get(8), b"sd").is_some(), "SAVE of {line}");
+}
+
+#[test]
+fn a_real_text_has_values(rt: HostRuntime) -> Result<(), Fail> {
+    if !fs::exists(&rt, ZONES)? {
+        return Ok(());
+    }
+    let text = fs::read_to_string(&rt, ZONES)?;
+    let mut joined = Joined::new();
+    let mut rules = 0u32;
+    for line in text.lines() {
+        assert!(rt; line.len() <= 2_048, "{line}");
+        match Fields::cut(line.as_bytes(), &mut joined) {
+            Ok(fields) => {
+                if is_rule(&fields) {
+                    has_values(&rt, &fields, line);
+                    rules = rules.saturating_add(1);
+                }
+            }
+            Err(_) => assert!(rt; false, "{line}"),
+        }
+    }
+    assert!(rt; rules > 0, "no rule in {ZONES}");
+    Ok(())
+}
+
+/// Whether a line of a zone isn't built yet, by its RULES and its FORMAT.
+fn is_unbuilt(rules: Option<&str>, format: Option<&str>) -> bool {
+    match (rules, format) {
+        (Some(rules), Some(format)) => rules != "-" || format.contains('%') || format.contains('/'),
+        _ => false,
+    }
+}
+
+/// The number of the first line of a text in the compact spelling that isn't built yet, or 0.
+fn first_unbuilt(text: &str) -> u32 {
+    let mut continues = false;
+    let mut number = 0u32;
+    for line in text.lines() {
+        number = number.saturating_add(1);
+        if line.starts_with("L ") {
+            return number;
+        }
+        if line.starts_with('#') || line.starts_with("R ") {
+            continue;
+        }
+        let mut words = line.split_whitespace();
+        if !continues {
+            let _ = words.next();
+            let _ = words.next();
+        }
+        let _ = words.next();
+        let rules = words.next();
+        let format = words.next();
+        if is_unbuilt(rules, format) {
+            return number;
+        }
+        continues = words.next().is_some();
+    }
+    0
+}
+
+#[test]
+fn a_real_text_is_told_where_it_is_unbuilt(rt: HostRuntime) -> Result<(), Fail> {
+    if !fs::exists(&rt, ZONES)? {
+        return Ok(());
+    }
+    let text = fs::read_to_string(&rt, ZONES)?;
+    assert!(rt; text.len() <= 4_194_304);
+    let wanted = Fault {
+        line: first_unbuilt(text.as_str()),
+        cause: 0,
+    };
+    match read_zones(rt.alloc(), text.as_bytes()) {
+        Ok(_) => assert!(rt; false, "{ZONES} is read"),
+        Err(error) => assert_eq!(rt; error, ReadError::Fault(wanted)),
+    }
+    Ok(())
+}
+
+#[test]
+fn a_real_leap_table_is_read(rt: HostRuntime) -> Result<(), Fail> {
+    if !fs::exists(&rt, LEAPS)? {
+        return Ok(());
+    }
+    let text = fs::read_to_string(&rt, LEAPS)?;
+    assert!(rt; text.len() <= 4_194_304);
+    let lines = text
+        .lines()
+        .filter(|line| line.starts_with("Leap\t"))
+        .count();
+    match read_leaps(rt.alloc(), text.as_bytes()) {
+        Ok(leaps) => assert_eq!(rt; leaps.dates.len(), lines),
+        Err(_) => assert!(rt; false, "{LEAPS} is refused"),
+    }
+    assert!(rt; lines > 0, "no leap second in {LEAPS}");
+    Ok(())
+}

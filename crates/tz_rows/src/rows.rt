@@ -1,0 +1,304 @@
+//! Worked rows: the words of a command, its status, and what it prints.
+use crate::outside::{files_of, run};
+use crate::texts::TEXTS;
+use std::alloc::{AllocError, Global};
+use std::process::Abort;
+use std::test::Fail;
+use tz_cli::{Plain, Status};
+use tz_io::MemoryFiles;
+
+const INFO: [(&str, Status, &str); 27] = [
+    (
+        "info N America/New_York 0",
+        Status::Ok,
+        "-2717650800 253402300800 -18000 0 EST\n",
+    ),
+    (
+        "info N America/New_York -2717650800",
+        Status::Ok,
+        "-2717650800 253402300800 -18000 0 EST\n",
+    ),
+    (
+        "info N America/New_York -2717650801",
+        Status::Ok,
+        "-377705116800 -2717650800 -17762 0 LMT\n",
+    ),
+    (
+        "info N America/New_York -377705116800",
+        Status::Ok,
+        "-377705116800 -2717650800 -17762 0 LMT\n",
+    ),
+    (
+        "info N America/New_York -377705116801",
+        Status::Range,
+        "range\n",
+    ),
+    (
+        "info N America/New_York 253402300799",
+        Status::Ok,
+        "-2717650800 253402300800 -18000 0 EST\n",
+    ),
+    (
+        "info N America/New_York 253402300800",
+        Status::Range,
+        "range\n",
+    ),
+    ("info N Nowhere 253402300800", Status::NoZone, "nozone\n"),
+    ("info N Nowhere 0", Status::NoZone, "nozone\n"),
+    ("info E Nowhere 0", Status::NoZone, "nozone\n"),
+    (
+        "info D Far/East 0",
+        Status::Ok,
+        "-377705116800 253402300800 86400 0 DAY\n",
+    ),
+    ("info A America/New_York 0", Status::Text, "text 11 0\n"),
+    ("info A Nowhere 253402300800", Status::Text, "text 11 0\n"),
+    (
+        "info C A 946684799",
+        Status::Ok,
+        "-377705116800 946684800 0 0 X\n",
+    ),
+    ("info C B 0", Status::NoZone, "nozone\n"),
+    ("info U A 0", Status::Text, "text 2 23\n"),
+    ("info W A 0", Status::Text, "text 1 19\n"),
+    ("info Missing America/New_York 0", Status::Read, "read\n"),
+    ("info - America/New_York 0", Status::Read, "read\n"),
+    ("info A America/New_York", Status::Usage, "usage\n"),
+    ("info N America/New_York", Status::Usage, "usage\n"),
+    ("info N America/New_York 0 0", Status::Usage, "usage\n"),
+    ("info N America/New_York +1", Status::Usage, "usage\n"),
+    (
+        "info N America/New_York 1234567890123456",
+        Status::Usage,
+        "usage\n",
+    ),
+    ("Info N America/New_York 0", Status::Usage, "usage\n"),
+    ("--help", Status::Usage, "usage\n"),
+    ("", Status::Usage, "usage\n"),
+];
+
+const CHECK: [(&str, Status, &str); 10] = [
+    (
+        "check E",
+        Status::Ok,
+        "ok unknown rules 0 zones 0 links 0\n",
+    ),
+    (
+        "check N",
+        Status::Ok,
+        "ok unknown rules 0 zones 1 links 0\n",
+    ),
+    (
+        "check D",
+        Status::Ok,
+        "ok unknown rules 0 zones 1 links 0\n",
+    ),
+    ("check W", Status::Text, "text 1 19\n"),
+    ("check A", Status::Text, "text 11 0\n"),
+    ("check Missing", Status::Read, "read\n"),
+    ("check -", Status::Read, "read\n"),
+    ("check", Status::Usage, "usage\n"),
+    ("check N N", Status::Usage, "usage\n"),
+    ("Check N", Status::Usage, "usage\n"),
+];
+
+const CLOCK: [(&str, Status, &str); 42] = [
+    ("clock L27 sys-utc 1483228800", Status::Ok, "1483228827\n"),
+    ("clock L27 utc-info 1483228826", Status::Ok, "leap 27\n"),
+    ("clock L27 utc-sys 1483228826", Status::Ok, "1483228799\n"),
+    ("clock L27 utc-tai 1483228827", Status::Ok, "1861920037\n"),
+    ("clock L27 utc-gps 1483228827", Status::Ok, "1167264018\n"),
+    ("clock L27 tai-utc 1861920037", Status::Ok, "1483228827\n"),
+    ("clock L27 gps-utc 1167264018", Status::Ok, "1483228827\n"),
+    ("clock L27 utc-info 1483228827", Status::Ok, "plain 27\n"),
+    ("clock L27 utc-info 78796799", Status::Ok, "plain 0\n"),
+    ("clock L27 utc-info 78796800", Status::Ok, "leap 1\n"),
+    ("clock - sys-utc 253402300800", Status::Range, "range\n"),
+    ("clock - sys-utc -0", Status::Ok, "0\n"),
+    ("clock - utc-tai 0", Status::Ok, "378691210\n"),
+    ("clock - utc-sys 253402300800", Status::Range, "range\n"),
+    ("clock - utc-info 0", Status::Ok, "plain 0\n"),
+    ("clock E utc-gps 0", Status::Ok, "-315964809\n"),
+    ("clock Missing sys-utc 0", Status::Read, "read\n"),
+    ("clock Missing sys-utc", Status::Usage, "usage\n"),
+    ("clock L27 sys-utc 0 0", Status::Usage, "usage\n"),
+    ("clock L27 Sys-utc 0", Status::Usage, "usage\n"),
+    ("clock L27 sys-ut 0", Status::Usage, "usage\n"),
+    ("clock L27 utc-information 0", Status::Usage, "usage\n"),
+    ("clock L27 gps-tai 0", Status::Usage, "usage\n"),
+    ("clock L27 sys-utc +1", Status::Usage, "usage\n"),
+    (
+        "clock L27 sys-utc 1234567890123456",
+        Status::Usage,
+        "usage\n",
+    ),
+    (
+        "clock L27 sys-utc 999999999999999",
+        Status::Range,
+        "range\n",
+    ),
+    (
+        "clock L27 tai-utc -999999999999999",
+        Status::Range,
+        "range\n",
+    ),
+    ("clock", Status::Usage, "usage\n"),
+    ("clock N sys-utc 0", Status::Text, "leaps 1 4\n"),
+    ("clock nul sys-utc 0", Status::Text, "leaps 1 2\n"),
+    ("clock quote sys-utc 0", Status::Text, "leaps 1 3\n"),
+    ("clock keyword sys-utc 0", Status::Text, "leaps 3 4\n"),
+    ("clock count sys-utc 0", Status::Text, "leaps 1 5\n"),
+    ("clock year sys-utc 0", Status::Text, "leaps 1 6\n"),
+    ("clock month sys-utc 0", Status::Text, "leaps 1 9\n"),
+    ("clock day sys-utc 0", Status::Text, "leaps 1 10\n"),
+    ("clock time sys-utc 0", Status::Text, "leaps 1 11\n"),
+    ("clock corr sys-utc 0", Status::Text, "leaps 1 16\n"),
+    ("clock rolling sys-utc 0", Status::Text, "leaps 1 17\n"),
+    ("clock twice sys-utc 0", Status::Text, "leaps 2 24\n"),
+    (
+        "clock twice sys-utc 253402300800",
+        Status::Text,
+        "leaps 2 24\n",
+    ),
+    ("clock L27 utc-utc 0", Status::Usage, "usage\n"),
+];
+
+/// The first and the last count in range of each conversion, each with the one past it.
+const ENDS: [(&str, Status, &str); 28] = [
+    ("clock L27 sys-utc -377705116801", Status::Range, "range\n"),
+    (
+        "clock L27 sys-utc -377705116800",
+        Status::Ok,
+        "-377705116800\n",
+    ),
+    (
+        "clock L27 sys-utc 253402300799",
+        Status::Ok,
+        "253402300826\n",
+    ),
+    ("clock L27 sys-utc 253402300800", Status::Range, "range\n"),
+    ("clock L27 utc-sys -377705116801", Status::Range, "range\n"),
+    (
+        "clock L27 utc-sys -377705116800",
+        Status::Ok,
+        "-377705116800\n",
+    ),
+    (
+        "clock L27 utc-sys 253402300826",
+        Status::Ok,
+        "253402300799\n",
+    ),
+    ("clock L27 utc-sys 253402300827", Status::Range, "range\n"),
+    ("clock L27 utc-info -377705116801", Status::Range, "range\n"),
+    ("clock L27 utc-info -377705116800", Status::Ok, "plain 0\n"),
+    ("clock L27 utc-info 253402300826", Status::Ok, "plain 27\n"),
+    ("clock L27 utc-info 253402300827", Status::Range, "range\n"),
+    ("clock L27 utc-tai -377705116801", Status::Range, "range\n"),
+    (
+        "clock L27 utc-tai -377705116800",
+        Status::Ok,
+        "-377326425590\n",
+    ),
+    (
+        "clock L27 utc-tai 253402300826",
+        Status::Ok,
+        "253780992036\n",
+    ),
+    ("clock L27 utc-tai 253402300827", Status::Range, "range\n"),
+    ("clock L27 tai-utc -377326425591", Status::Range, "range\n"),
+    (
+        "clock L27 tai-utc -377326425590",
+        Status::Ok,
+        "-377705116800\n",
+    ),
+    (
+        "clock L27 tai-utc 253780992036",
+        Status::Ok,
+        "253402300826\n",
+    ),
+    ("clock L27 tai-utc 253780992037", Status::Range, "range\n"),
+    ("clock L27 utc-gps -377705116801", Status::Range, "range\n"),
+    (
+        "clock L27 utc-gps -377705116800",
+        Status::Ok,
+        "-378021081609\n",
+    ),
+    (
+        "clock L27 utc-gps 253402300826",
+        Status::Ok,
+        "253086336017\n",
+    ),
+    ("clock L27 utc-gps 253402300827", Status::Range, "range\n"),
+    ("clock L27 gps-utc -378021081610", Status::Range, "range\n"),
+    (
+        "clock L27 gps-utc -378021081609",
+        Status::Ok,
+        "-377705116800\n",
+    ),
+    (
+        "clock L27 gps-utc 253086336017",
+        Status::Ok,
+        "253402300826\n",
+    ),
+    ("clock L27 gps-utc 253086336018", Status::Range, "range\n"),
+];
+
+/// What a sink takes that has room for few bytes.
+const PARTS: [(&str, usize, &str); 7] = [
+    ("info N America/New_York 0", 0, ""),
+    ("check A", 0, ""),
+    (
+        "info N America/New_York 0",
+        37,
+        "-2717650800 253402300800 -18000 0 EST",
+    ),
+    ("check E", 5, "ok un"),
+    ("check Missing", 3, "rea"),
+    ("clock twice sys-utc 0", 7, "leaps 2"),
+    ("clock", 2, "us"),
+];
+
+fn files(alloc: Global) -> Result<MemoryFiles, AllocError> {
+    let mut list = Vec::new(alloc);
+    for (name, text) in TEXTS {
+        let name = format!(in alloc; "{name}")?;
+        list.push((name, text.as_bytes().to_vec(alloc)?))?;
+    }
+    files_of(alloc, list)
+}
+
+fn answers(
+    rt: &impl Abort,
+    alloc: Global,
+    rows: &[(&str, Status, &str)],
+) -> Result<(), AllocError> {
+    let mut files = files(alloc)?;
+    for (line, status, printed) in rows {
+        for piece in [1, 64] {
+            let (answer, taken) = run(alloc, &mut files, line, piece, 4_096)?;
+            assert_eq!(rt; answer, Plain::Done(*status), "{line}");
+            assert_eq!(rt; taken.as_slice(), printed.as_bytes(), "{line}");
+        }
+    }
+    Ok(())
+}
+
+#[test]
+fn answers_each_row(rt: HostRuntime) -> Result<(), Fail> {
+    answers(&rt, rt.alloc(), INFO.as_slice())?;
+    answers(&rt, rt.alloc(), CHECK.as_slice())?;
+    answers(&rt, rt.alloc(), CLOCK.as_slice())?;
+    answers(&rt, rt.alloc(), ENDS.as_slice())?;
+    Ok(())
+}
+
+#[test]
+fn writes_a_part(rt: HostRuntime) -> Result<(), Fail> {
+    let mut files = files(rt.alloc())?;
+    for (line, room, printed) in PARTS {
+        let (answer, taken) = run(rt.alloc(), &mut files, line, 64, room)?;
+        assert_eq!(rt; answer, Plain::Done(Status::Write), "{line}");
+        assert_eq!(rt; taken.as_slice(), printed.as_bytes(), "{line}");
+    }
+    Ok(())
+}
