@@ -5,17 +5,8 @@
 # usage: bench/fields.sh [TEXT]
 # PASSES is how often a round goes over the text (20 if not set), ROUNDS the number of rounds (5 if not set).
 
-LC_ALL=C
-export LC_ALL
-top=$(CDPATH='' cd -- "$(dirname -- "$0")/.." && pwd -P) || exit 1
-crate=$top/crates/bench_fields
-program=$crate/out/bench_fields
+. "$(dirname -- "$0")/measure.sh"
 passes=${PASSES:-20}
-rounds=${ROUNDS:-5}
-
-room=$(mktemp -d) || exit 1
-trap 'rm -rf "$room"' 0
-trap 'exit 1' 1 2 15
 
 # Some lines of each kind, for a machine that has no real text.
 sample() {
@@ -43,71 +34,27 @@ make_text() {
     done
 }
 
-newer_sources() {
-    find "$top/crates.txt" "$top/crates" -name out -prune -o \
-        -type f \( -name '*.rt' -o -name '*.antt' -o -name crates.txt \) -newer "$program" -print
-}
-
-# The program gets the time at which its build began, as in bin/tzlist.
-build() {
-    begun=$crate/out/bench_fields.begun
-    mkdir -p "$crate/out" && : >"$begun" || return 1
-    if ! said=$(cd "$crate" && rt run -- data/sample 2>&1 </dev/null); then
-        printf '%s\n' "$said" >&2
-        return 1
-    fi
-    touch -r "$begun" "$program"
-}
-
 if ! make_text "$@"; then
     echo "bench: there is no text to measure" >&2
     exit 1
 fi
-if ! [ -x "$program" ] || [ -n "$(newer_sources)" ]; then
-    build || exit 1
-fi
+"$top/bin/build" bench_fields data/sample || exit 1
 
-count_words() {
-    left=$passes
-    while [ "$left" -gt 0 ]; do
-        wc -w "$room/text" >"$room/words" || exit 1
-        left=$((left - 1))
-    done
+bytes=$(($(wc -c <"$room/text")))
+# Megabytes in a second, where so many seconds were spent on all passes.
+speed() {
+    ratio "$(awk -v bytes="$bytes" -v passes="$passes" 'BEGIN { print bytes * passes / 1000000 }')" "$1"
 }
 
-set --
+echo "$passes passes over $bytes bytes"
+echo "round   fields MB/s   wc -w MB/s   fields / wc -w"
 round=0
 while [ "$round" -lt "$rounds" ]; do
     round=$((round + 1))
-    times >"$room/$round.start"
-    "$program" "$room/text" "$passes" >"$room/answer" || exit 1
-    times >"$room/$round.fields"
-    count_words
-    times >"$room/$round.words"
-    set -- "$@" "$room/$round.start" "$room/$round.fields" "$room/$round.words"
+    note start
+    repeat fields 1 "$top/crates/bench_fields/out/bench_fields" "$room/text" "$passes"
+    repeat words "$passes" wc -w "$room/text"
+    fields=$(spent start fields)
+    words=$(spent fields words)
+    printf '%5d   %11s   %10s   %14s\n' "$round" "$(speed "$fields")" "$(speed "$words")" "$(ratio "$words" "$fields")"
 done
-
-bytes=$(($(wc -c <"$room/text")))
-echo "$passes passes over $bytes bytes: $(cat "$room/answer")"
-echo "round   fields MB/s   wc -w MB/s   fields / wc -w"
-# The second line of a note has the user and the system time of the commands that have ended.
-awk -v bytes="$bytes" -v passes="$passes" '
-    function seconds(word, parts) {
-        split(word, parts, "m")
-        return 60 * parts[1] + parts[2]
-    }
-    FNR == 1 { note = (note + 1) % 3 }
-    FNR == 2 {
-        now = seconds($1) + seconds($2)
-        spent[note] = now - before
-        before = now
-        if (note == 0) {
-            round++
-            if (spent[2] > 0 && spent[0] > 0) {
-                megabytes = bytes * passes / 1000000
-                printf "%5d   %11.0f   %10.0f   %14.2f\n", round, megabytes / spent[2], megabytes / spent[0], spent[0] / spent[2]
-            } else
-                printf "%5d   too short to measure: give a greater PASSES\n", round
-        }
-    }
-' "$@"
