@@ -1,5 +1,6 @@
 -- What was gathered without a fault, and the database that is built of it.
 use Rattle.std.proofs.Common.{◌≡◌, ◌≢◌, ℕ, ◌≤◌, nat_lt, IsTrue, List, [], length, map, Option, None, refl, ap, arith}
+use Rattle.std.proofs.lemmas.Bool.{and_from}
 use Rattle.std.specs.List.{list_all, AllPairs}
 use Rattle.std.specs.List.Sorted.{IsPermutation}
 use Rattle.std.proofs.lemmas.List.Sorted.{IsPermutation-refl, length_permutation}
@@ -20,7 +21,6 @@ use Rattle.tz_lines.specs.PlainZone.{is_built_zone}
 use Rattle.tz_lines.specs.declared.contents.EntryZone.{EntryZone}
 use Rattle.tz_lines.specs.declared.contents.Gathered.{Gathered}
 use Rattle.tz_lines.specs.Gathered.{written_entry_zone, contents_gathered}
-use Rattle.tz_lines.proofs.BuiltLines.{both}
 use Rattle.tz_lines.proofs.Faultless.{Faultless, faultless, zones_built, no_whole_faults}
 use Rattle.tz_lines.proofs.NamesApart.{zones_apart}
 use Rattle.tz_lines.proofs.ZoneTime.{zones_run_on, built_zones_sound}
@@ -61,7 +61,7 @@ is_built_of gathered db good sets zones links plain =
       zones = zones names;
       links = rw good.no_links (no_links_built db links);
       places = rw links refl;
-      sound = both (list_all (is_sound_zone db) db.zones) (list_all (λ (link : Link). nat_lt link.zone (length db.zones)) db.links) zones_sound (rw links refl);
+      sound = and_from (list_all (is_sound_zone db) db.zones) (list_all (λ (link : Link). nat_lt link.zone (length db.zones)) db.links) zones_sound (rw links refl);
       plain = plain;
       no_links = links;
     }

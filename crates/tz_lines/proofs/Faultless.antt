@@ -1,5 +1,6 @@
 -- Contents of which no fault is told.
 use Rattle.std.proofs.Common.{◌≡◌, ℕ, Bool, true, false, not, IsTrue, List, [], ◌∷◌, ◌++◌, map, Option, Some, None, option_map, refl, ap, ◌∙◌, ℤ, int_lt, if◌then◌else◌}
+use Rattle.std.proofs.lemmas.Bool.{and_parts, and_from}
 use Rattle.std.specs.List.{list_all, filter_map, flat_map, cons_option}
 use Rattle.tz_types.specs.declared.cause.Cause.TheVariants as causes
 use Rattle.tz_types.specs.declared.fault.Fault.{Fault}
@@ -13,7 +14,6 @@ use Rattle.tz_specs.specs.Contents.{Contents}
 use Rattle.tz_specs.specs.Whole.{fault_where, missing_continuation, following_in, unknown_rule, names_given, repeated_name, finish_in, late_lines, whole_faults}
 use Rattle.tz_specs.specs.Unbuilt.{names_no_rules, is_text, is_built, unbuilt_line, plain_finish, late_plain_lines, faults_so_far}
 use Rattle.tz_lines.specs.PlainZone.{is_built_zone}
-use Rattle.tz_lines.proofs.BuiltLines.{both, first_of_two, second_of_two}
 
 pub none_first : {A : Type 0} (first second : List A) → first ++ second ≡ [] → first ≡ []
 none_first {A} [] second e = refl
@@ -70,7 +70,7 @@ test_holds false number e = cc
 lines_built : (lines : List WrittenLine) → filter_map unbuilt_line lines ≡ [] → IsTrue (list_all is_built lines)
 lines_built [] e = refl
 lines_built (line ∷ lines) e =
-    both (is_built line) (list_all is_built lines) (test_holds (is_built line) line.line (none_of_first (unbuilt_line line) (filter_map unbuilt_line lines) e))
+    and_from (is_built line) (list_all is_built lines) (test_holds (is_built line) line.line (none_of_first (unbuilt_line line) (filter_map unbuilt_line lines) e))
     (lines_built lines (none_of_rest (unbuilt_line line) (filter_map unbuilt_line lines) e))
 
 -- each line is built
@@ -78,7 +78,7 @@ pub zones_built : (zones : List WrittenZone) → flat_map (λ zone. filter_map u
 zones_built [] e = refl
 zones_built (zone ∷ zones) e =
     let rest = flat_map (λ zone. filter_map unbuilt_line zone.lines) zones in
-    both (is_built_zone zone) (list_all is_built_zone zones) (lines_built zone.lines (none_first (filter_map unbuilt_line zone.lines) rest e))
+    and_from (is_built_zone zone) (list_all is_built_zone zones) (lines_built zone.lines (none_first (filter_map unbuilt_line zone.lines) rest e))
     (zones_built zones (none_second (filter_map unbuilt_line zone.lines) rest e))
 
 -- a line that is built has a known rule set, and ends alike
@@ -89,17 +89,17 @@ known_rules sets (RulesNamed name) h = cc
 
 rules_known : (sets : List RuleSet) (line : WrittenLine) → IsTrue (is_built line) → unknown_rule sets line ≡ None
 rules_known sets line built =
-    rw (known_rules sets line.rules (first_of_two (names_no_rules line.rules) (is_text line.format) built)) refl
+    rw (known_rules sets line.rules (and_parts (names_no_rules line.rules) (is_text line.format) built).0) refl
 
 no_unknown_lines : (sets : List RuleSet) (lines : List WrittenLine) → IsTrue (list_all is_built lines) → filter_map (unknown_rule sets) lines ≡ []
 no_unknown_lines sets [] built = refl
 no_unknown_lines sets (line ∷ lines) built =
-    rw (rules_known sets line (first_of_two (is_built line) (list_all is_built lines) built)) (no_unknown_lines sets lines (second_of_two (is_built line) (list_all is_built lines) built))
+    rw (rules_known sets line (and_parts (is_built line) (list_all is_built lines) built).0) (no_unknown_lines sets lines (and_parts (is_built line) (list_all is_built lines) built).1)
 
 no_unknown_zones : (sets : List RuleSet) (zones : List WrittenZone) → IsTrue (list_all is_built_zone zones) → flat_map (λ zone. filter_map (unknown_rule sets) zone.lines) zones ≡ []
 no_unknown_zones sets [] built = refl
 no_unknown_zones sets (zone ∷ zones) built =
-    rw (no_unknown_lines sets zone.lines (first_of_two (is_built_zone zone) (list_all is_built_zone zones) built)) (no_unknown_zones sets zones (second_of_two (is_built_zone zone) (list_all is_built_zone zones) built))
+    rw (no_unknown_lines sets zone.lines (and_parts (is_built_zone zone) (list_all is_built_zone zones) built).0) (no_unknown_zones sets zones (and_parts (is_built_zone zone) (list_all is_built_zone zones) built).1)
 
 ends_at_until : (stdoff : ℤ) (until : Option WrittenUntil) → (until >>= λ it. option_map (λ following. until_instant following stdoff it.year it.moment) (Some Nothing)) ≡ option_map (λ (it : WrittenUntil). until_instant Nothing stdoff it.year it.moment) until
 ends_at_until stdoff None = refl
@@ -107,7 +107,7 @@ ends_at_until stdoff (Some until) = refl
 
 same_finish : (sets : List RuleSet) (line : WrittenLine) → IsTrue (is_built line) → finish_in sets line ≡ plain_finish line
 same_finish sets line built =
-    rw (known_rules sets line.rules (first_of_two (names_no_rules line.rules) (is_text line.format) built)) (ends_at_until line.stdoff line.until)
+    rw (known_rules sets line.rules (and_parts (names_no_rules line.rules) (is_text line.format) built).0) (ends_at_until line.stdoff line.until)
 
 -- the faults from a line on, by when it ends and by what follows then
 abbrev from_finish : ℤ → Fault → (ℤ → List Fault) → Option ℤ → List Fault
@@ -124,8 +124,8 @@ same_from start fault later other (Some end) same = rw (same end) refl
 same_late_lines : (sets : List RuleSet) (start : ℤ) (lines : List WrittenLine) → IsTrue (list_all is_built lines) → late_lines sets start lines ≡ late_plain_lines start lines
 same_late_lines sets start [] built = refl
 same_late_lines sets start (line ∷ lines) built =
-    let here : is_built line ≡ true = first_of_two (is_built line) (list_all is_built lines) built in
-    let rest = second_of_two (is_built line) (list_all is_built lines) built in
+    let here : is_built line ≡ true = (and_parts (is_built line) (list_all is_built lines) built).0 in
+    let rest = (and_parts (is_built line) (list_all is_built lines) built).1 in
     let fault = fault_at line.line causes.UntilOrder in
     let same = same_from start fault (λ end. late_lines sets end lines) (λ end. late_plain_lines end lines) (plain_finish line) (λ end. same_late_lines sets end lines rest) in
     rw here (ap (from_finish start fault (λ end. late_lines sets end lines)) (same_finish sets line here) ∙ same)
@@ -134,8 +134,8 @@ no_late_zones : (sets : List RuleSet) (zones : List WrittenZone) → IsTrue (lis
 no_late_zones sets [] built none = refl
 no_late_zones sets (zone ∷ zones) built none =
     let later = flat_map (λ zone. late_plain_lines first_instant zone.lines) zones in
-    rw (same_late_lines sets first_instant zone.lines (first_of_two (is_built_zone zone) (list_all is_built_zone zones) built))
-    (rw (none_first (late_plain_lines first_instant zone.lines) later none) (no_late_zones sets zones (second_of_two (is_built_zone zone) (list_all is_built_zone zones) built) (none_second (late_plain_lines first_instant zone.lines) later none)))
+    rw (same_late_lines sets first_instant zone.lines (and_parts (is_built_zone zone) (list_all is_built_zone zones) built).0)
+    (rw (none_first (late_plain_lines first_instant zone.lines) later none) (no_late_zones sets zones (and_parts (is_built_zone zone) (list_all is_built_zone zones) built).1 (none_second (late_plain_lines first_instant zone.lines) later none)))
 
 -- and so the whole text has none, whatever its rule sets are
 pub no_whole_faults : (sets : List RuleSet) (contents : Contents) → Faultless contents → whole_faults sets contents ≡ []

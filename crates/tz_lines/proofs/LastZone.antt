@@ -9,9 +9,10 @@ use Rattle.tz_types.specs.Limit.{most_lines}
 use Rattle.tz_types.specs.declared.until.Until.{Until}
 use Rattle.tz_specs.specs.Written.{WrittenLine, WrittenZone, written_until}
 use Rattle.tz_specs.specs.Contents.{last_lines, wants_line, with_line}
-use Rattle.tz_lines.specs.Entry.{written_entry_line, are_continued}
+use Rattle.tz_records.specs.Entry.{written_entry_line}
+use Rattle.tz_lines.specs.Continued.{are_continued}
 use Rattle.tz_lines.specs.Gathered.{written_entry_zone}
-use Rattle.tz_lines.specs.declared.entry.EntryLine.{EntryLine}
+use Rattle.tz_records.specs.declared.entry.EntryLine.{EntryLine}
 use Rattle.tz_lines.specs.declared.contents.EntryZone.{EntryZone}
 
 last_at : {X : Type 0} (xs : List X) → slice_get xs (length xs - 1) ≡ last_or None xs
@@ -26,16 +27,13 @@ last_map f before [] = refl
 last_map f before (x ∷ xs) = last_map f (Some x) xs
 
 -- the last element, by what `last` answers
-last_is : {X Y : Type 0} (f : X → Y) (xs : List X) (x : X) → Some x ≡ slice_get xs (length xs - 1) → last_or None (map f xs) ≡ Some (f x)
+pub last_is : {X Y : Type 0} (f : X → Y) (xs : List X) (x : X) → Some x ≡ slice_get xs (length xs - 1) → last_or None (map f xs) ≡ Some (f x)
 last_is f xs x e = last_map f None xs ∙ ap (option_map f) (sym (last_at xs) ∙ sym e)
-
-none_last : {X Y : Type 0} (f : X → Y) (xs : List X) → None ≡ slice_get xs (length xs - 1) → last_or None (map f xs) ≡ None
-none_last f xs e = last_map f None xs ∙ ap (option_map f) (sym (last_at xs) ∙ sym e)
 
 pub last_lines_of : (zones : List EntryZone) (zone : EntryZone) → Some zone ≡ slice_get zones (length zones - 1) → last_lines (map written_entry_zone zones) ≡ map written_entry_line zone.lines
 last_lines_of zones zone e = rw (last_is written_entry_zone zones zone e) refl
 
-until_some : (until : Option Until) → is_some until ≡ is_some (option_map written_until until)
+pub until_some : (until : Option Until) → is_some until ≡ is_some (option_map written_until until)
 until_some None = refl
 until_some (Some until) = refl
 

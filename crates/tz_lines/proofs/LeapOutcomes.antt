@@ -9,7 +9,8 @@ use Rattle.tz_types.specs.declared.fault.Fault.{Fault}
 use Rattle.tz_types.specs.declared.cause.Cause.{Cause}
 use Rattle.tz_types.specs.declared.cause.Cause.TheVariants as causes
 use Rattle.tz_specs.specs.Causes.{fault_at}
-use Rattle.tz_lines.specs.LeapText.{LeapRecord, before_rest, leap_records_from, is_among, first_repeat, unless_repeat, dates_of, line_says, leap_dates_of, RefusesLeaps, ReadsLeaps}
+use Rattle.tz_records.specs.LeapLine.{line_says}
+use Rattle.tz_lines.specs.LeapText.{LeapRecord, before_rest, leap_records_from, is_among, first_repeat, unless_repeat, dates_of, leap_dates_of, RefusesLeaps, ReadsLeaps}
 use Rattle.tz_types.specs.declared.leap_dates.Leaps.{Leaps}
 use Rattle.tz_specs.specs.Line.{lines_of}
 use Rattle.tz_lines.specs.LeapOutcome.{place_among, with_date, repeat_after, repeat_with, leap_outcome, Comes}

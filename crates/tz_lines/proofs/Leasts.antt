@@ -1,10 +1,11 @@
 -- The least of all faults that were told.
-use Rattle.std.proofs.Common.{◌≡◌, zero, suc, Bool, true, false, IsTrue, List, [], ◌∷◌, ⊎_elim, Option, Some, None, refl, arith, Contains}
+use Rattle.std.proofs.Common.{◌≡◌, true, false, IsTrue, List, [], ◌∷◌, ⊎_elim, Option, Some, None, refl, subst, arith, Contains}
 use Rattle.std.proofs.lemmas.Bool.{cases_Bool}
 use Rattle.std.proofs.lemmas.Bool.Decides.{nat_tests}
 use Rattle.std.proofs.lemmas.List.Elements.{All-cons, All-head, All-tail, All-nil}
 use Rattle.tz_types.specs.declared.fault.Fault.{Fault}
 use Rattle.tz_specs.specs.Whole.{is_told_before, IsLeast}
+use Rattle.tz_specs.proofs.AscendingLemmas.{first_or_later, is_first, is_later}
 use Rattle.tz_lines.specs.Told.{told_with, IsLeastOf}
 
 before_itself : (fault : Fault) → IsTrue (is_told_before fault fault)
@@ -16,12 +17,9 @@ before_both a b c h k = grind (arith, nat_tests)
 before_else : (a b : Fault) → is_told_before a b ≡ false → IsTrue (is_told_before b a)
 before_else a b h = grind (arith, nat_tests)
 
-in_rest : {A : Type 0} (x y : A) (xs : List A) → Contains xs y → Contains (x ∷ xs) y
-in_rest {A} x y xs h = (suc h.0, omega (arith, h.1), h.2)
-
 past_second : {A : Type 0} (x y z : A) (xs : List A) → Contains (x ∷ xs) z → Contains (x ∷ y ∷ xs) z
-past_second {A} x y z xs (zero, low, is) = (zero, omega arith, is)
-past_second {A} x y z xs (suc k, low, is) = (suc (suc k), omega arith, is)
+past_second {A} x y z xs h =
+    ⊎_elim (λ (same : x ≡ z). subst (Contains (x ∷ y ∷ xs)) same (is_first x (y ∷ xs))) (λ (later : Contains xs z). is_later x z (y ∷ xs) (is_later y z xs later)) (first_or_later x z xs h)
 
 -- the least of one and some more
 record LeastIs (least : Option Fault) (faults : List Fault) : Type 0 where
@@ -51,25 +49,21 @@ takes_next first fault faults least not_before found =
       fault = here;
       is = found.is;
       all = record {
-        among = in_rest first here (fault ∷ faults) found.all.among;
+        among = is_later first here (fault ∷ faults) found.all.among;
         least = All-cons (λ other. IsTrue (is_told_before here other)) first (fault ∷ faults) (before_both here fault first upto (before_else first fault not_before)) found.all.least;
       };
     }
-
-is_true : (b : Bool) → b ≡ true → IsTrue b
-is_true true e = refl
-is_true false e = cc
 
 told_first : (first : Fault) (faults : List Fault) → LeastIs (told_with (Some first) faults) (first ∷ faults)
 told_first first [] =
     record {
       fault = first;
       is = refl;
-      all = record { among = (zero, omega arith, refl); least = All-cons (λ other. IsTrue (is_told_before first other)) first [] (before_itself first) (All-nil (λ other. IsTrue (is_told_before first other))) };
+      all = record { among = is_first first []; least = All-cons (λ other. IsTrue (is_told_before first other)) first [] (before_itself first) (All-nil (λ other. IsTrue (is_told_before first other))) };
     }
 told_first first (fault ∷ faults) =
     ⊎_elim
-    (λ (e : is_told_before first fault ≡ true). rw e (keeps_first first fault faults (told_with (Some first) faults) (is_true (is_told_before first fault) e) (told_first first faults)))
+    (λ (e : is_told_before first fault ≡ true). rw e (keeps_first first fault faults (told_with (Some first) faults) e (told_first first faults)))
     (λ (e : is_told_before first fault ≡ false). rw e (takes_next first fault faults (told_with (Some fault) faults) e (told_first fault faults)))
     (cases_Bool (is_told_before first fault))
 

@@ -4,7 +4,7 @@ use Rattle.std.proofs.lemmas.Bool.{cases_Bool}
 use Rattle.std.proofs.lemmas.Bool.Decides.{nat_tests}
 use Rattle.std.proofs.lemmas.List.{drop_all}
 use Rattle.memchr.specs.Find.{Nowhere, Passes, is_byte}
-use Rattle.tz_specs.specs.Line.{lines_of, onto_first}
+use Rattle.tz_specs.specs.Line.{lines_of}
 
 -- no newline stands before the place
 abbrev pub NoneBefore : List ℕ → ℕ → Type 0
@@ -43,17 +43,6 @@ is_newline byte h = grind (arith, nat_tests)
 -- nothing is left after the last line
 pub none_left : (text : List ℕ) → drop (length text) text ≡ []
 none_left text = drop_all (length text) text (omega arith)
-
--- a text with a byte has a line
-pub lines_some : (text : List ℕ) → 0 < length text → 0 < length (lines_of text)
-unfolding lines_of
-lines_some [] some = absurd (omega arith)
-lines_some (byte ∷ text) some =
-    ⊎_elim (λ (e : eqb byte 10 ≡ true). rw e (omega arith)) (λ (e : eqb byte 10 ≡ false). rw e (on_first byte (lines_of text))) (cases_Bool (eqb byte 10))
-  where
-    on_first : (byte : ℕ) (lines : List (List ℕ)) → 0 < length (onto_first byte lines)
-    on_first byte [] = omega arith
-    on_first byte (line ∷ lines) = omega arith
 
 pub nothing_left : (text : List ℕ) → true ≡ eqb (length text) 0 → text ≡ []
 nothing_left [] h = refl

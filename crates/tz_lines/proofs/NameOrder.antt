@@ -13,6 +13,7 @@ use Rattle.std.proofs.lemmas.List.Sorted.{searchable_from_sorted}
 use Rattle.tz_types.specs.Order.{ascends, ascends_after, name_before}
 use Rattle.tz_specs.specs.Value.{is_exactly}
 use Rattle.tz_lines.specs.NamePlace.{name_place, one_later}
+use Rattle.tz_lines.proofs.Ascending.{rest_ascends}
 
 -- how two names compare
 abbrev pub compared : List ℕ → List ℕ → Ordering
@@ -92,8 +93,7 @@ module _ {X : Type 0} (name_of : X → List ℕ) where
   AscendAfter name xs = ascends_after name_before name (map name_of xs) ≡ true
 
   pub after-tail : (x : X) (xs : List X) → AscendAfter (name_of x) xs → Ascend xs
-  after-tail x [] h = refl
-  after-tail x (y ∷ xs) h = (and_parts (name_before (name_of x) (name_of y)) (ascends_after name_before (name_of y) (map name_of xs)) h).1
+  after-tail x xs h = rest_ascends name_before (name_of x) (map name_of xs) h
 
   pub after-rest : (name : List ℕ) (x : X) (xs : List X) → AscendAfter name (x ∷ xs) → AscendAfter (name_of x) xs
   after-rest name x xs h =

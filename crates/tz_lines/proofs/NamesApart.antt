@@ -1,8 +1,10 @@
 -- Zones that begin one after another, and of which none has the name of an earlier one, have different names.
-use Rattle.std.proofs.Common.{◌≡◌, ◌≢◌, ℕ, zero, suc, ◌+◌, ◌<◌, Bool, true, false, nat_lt, ◌&&◌, ◌||◌, IsTrue, List, [], ◌∷◌, ◌++◌, length, get_or, map, Option, Some, None, refl, sym, ap, ◌∙◌, arith}
+use Rattle.std.proofs.Common.{◌≡◌, ◌≢◌, ℕ, zero, suc, ◌+◌, ◌<◌, true, nat_lt, ◌&&◌, IsTrue, List, [], ◌∷◌, ◌++◌, length, get_or, map, Option, Some, None, refl, sym, ap, ◌∙◌, arith}
+use Rattle.std.proofs.lemmas.Bool.{and_parts}
 use Rattle.std.specs.List.{list_any, filter_map, AllPairs}
 use Rattle.std.proofs.lemmas.Bool.Decides.{nat_tests}
 use Rattle.std.proofs.lemmas.List.{get_or-map, length-map, length-append, get_or_append_left}
+use Rattle.std.proofs.lemmas.List.Folds.{list_any_at}
 use Rattle.std.proofs.lemmas.Slice.Eq.{bytes_eq-Decides}
 use Rattle.tz_types.specs.Order.{ascends, ascends_after}
 use Rattle.tz_types.specs.declared.cause.Cause.TheVariants as causes
@@ -12,10 +14,11 @@ use Rattle.tz_specs.specs.Whole.{fault_where, zone_name, names_given, repeated_n
 use Rattle.tz_lines.specs.LineOrder.{begin_in_order}
 use Rattle.tz_lines.specs.declared.contents.EntryZone.{EntryZone}
 use Rattle.tz_lines.specs.declared.contents.Gathered.{Gathered}
-use Rattle.tz_lines.specs.declared.entry.EntryLine.{EntryLine}
-use Rattle.tz_lines.specs.Entry.{written_entry_line, are_continued}
+use Rattle.tz_records.specs.declared.entry.EntryLine.{EntryLine}
+use Rattle.tz_records.specs.Entry.{written_entry_line}
+use Rattle.tz_lines.specs.Continued.{are_continued}
 use Rattle.tz_lines.specs.Gathered.{written_entry_zone, contents_gathered}
-use Rattle.tz_lines.proofs.BuiltLines.{first_of_two, second_of_two}
+use Rattle.tz_lines.proofs.Ascending.{rest_ascends}
 use Rattle.tz_lines.proofs.Faultless.{none_of_first, none_of_rest}
 
 abbrev name_of : List ℕ × ℕ → List ℕ
@@ -41,24 +44,19 @@ names_of_all (zone ∷ zones) =
 above_first : (low : ℕ) (numbers : List ℕ) (k : ℕ) → IsTrue (ascends_after nat_lt low numbers) → k < length numbers → low < get_or numbers k 0
 above_first low [] k ascend within = absurd (omega arith)
 above_first low (number ∷ numbers) zero ascend within =
-    let first = first_of_two (nat_lt low number) (ascends_after nat_lt number numbers) ascend in
+    let first = (and_parts (nat_lt low number) (ascends_after nat_lt number numbers) ascend).0 in
     grind (arith, nat_tests)
 above_first low (number ∷ numbers) (suc k) ascend within =
-    let first = first_of_two (nat_lt low number) (ascends_after nat_lt number numbers) ascend in
-    let later = above_first number numbers k (second_of_two (nat_lt low number) (ascends_after nat_lt number numbers) ascend) (omega arith) in
+    let first = (and_parts (nat_lt low number) (ascends_after nat_lt number numbers) ascend).0 in
+    let later = above_first number numbers k (and_parts (nat_lt low number) (ascends_after nat_lt number numbers) ascend).1 (omega arith) in
     grind (arith, nat_tests)
-
-rest_ascends : (low : ℕ) (numbers : List ℕ) → IsTrue (ascends_after nat_lt low numbers) → IsTrue (ascends nat_lt numbers)
-rest_ascends low [] ascend = refl
-rest_ascends low (number ∷ numbers) ascend =
-    second_of_two (nat_lt low number) (ascends_after nat_lt number numbers) ascend
 
 later_greater : (numbers : List ℕ) (i j : ℕ) → IsTrue (ascends nat_lt numbers) → i < j → j < length numbers → get_or numbers i 0 < get_or numbers j 0
 later_greater [] i j ascend before within = absurd (omega arith)
 later_greater (number ∷ numbers) i zero ascend before within = absurd (omega arith)
 later_greater (number ∷ numbers) zero (suc j) ascend before within = above_first number numbers j ascend (omega arith)
 later_greater (number ∷ numbers) (suc i) (suc j) ascend before within =
-    later_greater numbers i j (rest_ascends number numbers ascend) (omega arith) (omega arith)
+    later_greater numbers i j (rest_ascends nat_lt number numbers ascend) (omega arith) (omega arith)
 
 -- ---- what is at a place of a list
 
@@ -66,15 +64,6 @@ none_at : {A : Type 0} (f : A → Option Fault) (xs : List A) (k : ℕ) (d : A) 
 none_at {A} f [] k d e low = absurd (omega arith)
 none_at {A} f (x ∷ xs) zero d e low = none_of_first (f x) (filter_map f xs) e
 none_at {A} f (x ∷ xs) (suc k) d e low = none_at f xs k d (none_of_rest (f x) (filter_map f xs) e) (omega arith)
-
-or_second : (a b : Bool) → b ≡ true → (a || b) ≡ true
-or_second true b e = refl
-or_second false b e = e
-
-any_at : {A : Type 0} (p : A → Bool) (xs : List A) (k : ℕ) (d : A) → k < length xs → p (get_or xs k d) ≡ true → list_any p xs ≡ true
-any_at {A} p [] k d low here = absurd (omega arith)
-any_at {A} p (x ∷ xs) zero d low here = rw here refl
-any_at {A} p (x ∷ xs) (suc k) d low here = or_second (p x) (list_any p xs) (any_at p xs k d (omega arith) here)
 
 given_before : (a b : List ℕ) (line later : ℕ) → a ≡ b → line < later → (is_exactly a b && nat_lt line later) ≡ true
 given_before a b line later same below =
@@ -106,7 +95,7 @@ apart_by_lines names others ascend none i j d before within same =
     let here = get_or names j end in
     let one = given_before (get_or names i end).0 here.0 (get_or names i end).1 here.1 equal less in
     let any : list_any (λ (other : List ℕ × ℕ). is_exactly other.0 here.0 && nat_lt other.1 here.1) (names ++ others) ≡ true =
-    any_at (λ (other : List ℕ × ℕ). is_exactly other.0 here.0 && nat_lt other.1 here.1) (names ++ others) i end (omega arith) (rw at_i one) in
+    list_any_at (λ (other : List ℕ × ℕ). is_exactly other.0 here.0 && nat_lt other.1 here.1) (names ++ others) i end (omega arith) (rw at_i one) in
     let none_j : repeated_name (names ++ others) here ≡ None = rw at_j at (none_at (repeated_name (names ++ others)) (names ++ others) j end none (omega arith)) in
     no_fault_where here.1 (rw any at none_j)
 

@@ -1,12 +1,13 @@
 -- What stands at the place of a name.
-use Rattle.std.proofs.Common.{◌≡◌, ℕ, suc, ◌+◌, ◌<◌, Bool, true, false, not, cond, nat_lt, List, [], ◌∷◌, length, map, get_or, Option, Some, None, Result, Ok, Err, refl, sym, ◌∙◌, arith}
-use Rattle.std.specs.List.{find, position, position_or_len}
+use Rattle.std.proofs.Common.{◌≡◌, ℕ, suc, ◌+◌, ◌<◌, Bool, true, false, not, cond, nat_lt, ◌&&◌, List, [], ◌∷◌, length, map, get_or, Option, Some, None, Result, Ok, Err, refl, sym, ◌∙◌, arith}
+use Rattle.std.specs.List.{find, insert, position, position_or_len}
+use Rattle.std.proofs.lemmas.Bool.{and_parts, and_from}
 use Rattle.std.proofs.lemmas.Bool.Decides.{nat_tests}
 use Rattle.std.proofs.lemmas.Slice.Eq.{bytes_eq-Decides}
-use Rattle.tz_types.specs.Order.{name_before}
+use Rattle.tz_types.specs.Order.{ascends, ascends_after, name_before}
 use Rattle.tz_specs.specs.Value.{is_exactly}
 use Rattle.tz_lines.specs.NamePlace.{name_place, one_later}
-use Rattle.tz_lines.proofs.NameOrder.{Ascend, AscendAfter, after-tail, after-rest, after-at, before_trans, differs_before}
+use Rattle.tz_lines.proofs.NameOrder.{Ascend, AscendAfter, after-tail, after-rest, after-at, before_trans, before_other, differs_before}
 
 pub place_same : (name other : List ℕ) (names : List (List ℕ)) → is_exactly other name ≡ true → name_place name (other ∷ names) ≡ Ok 0
 unfolding name_place
@@ -53,6 +54,42 @@ pub data LaterGap (later : Result ℕ ℕ) (place : ℕ) : Type 0 where
 pub err_later : (later : Result ℕ ℕ) (place : ℕ) → one_later later ≡ Err place → LaterGap later place
 err_later (Ok before) place e = cc
 err_later (Err before) place e = later_gap before (cc) refl
+
+-- names with one more in its place
+
+after_inserted : (low name : List ℕ) (names : List (List ℕ)) (place : ℕ) → name_before low name ≡ true → ascends_after name_before low names ≡ true → name_place name names ≡ Err place → ascends_after name_before low (insert names place name) ≡ true
+after_inserted low name [] place below up e =
+    let none : place ≡ 0 = cc (place_empty name) in
+    rw none (and_from (name_before low name) true below refl)
+after_inserted low name (other ∷ names) place below up e =
+    let here = (and_parts (name_before low other) (ascends_after name_before other names) up).0 in
+    let later = (and_parts (name_before low other) (ascends_after name_before other names) up).1 in
+    elim (stands name other names) [
+      | same_name same is ↦ cc
+      | later_name differs before is ↦
+          (let none : place ≡ 0 = cc in
+          rw none (and_from (name_before low name) (name_before name other && ascends_after name_before other names) below (and_from (name_before name other) (ascends_after name_before other names) before later)))
+      | earlier_name differs before is ↦
+          elim (err_later (name_place name names) place (sym is ∙ e)) [
+            | later_gap early step there ↦
+                rw step (and_from (name_before low other) (ascends_after name_before other (insert names early name)) here (after_inserted other name names early (before_other other name differs before) later there))
+          ]
+    ]
+
+pub ascends_inserted : (name : List ℕ) (names : List (List ℕ)) (place : ℕ) → ascends name_before names ≡ true → name_place name names ≡ Err place → ascends name_before (insert names place name) ≡ true
+ascends_inserted name [] place up e = (let none : place ≡ 0 = cc (place_empty name) in rw none refl)
+ascends_inserted name (other ∷ names) place up e =
+    elim (stands name other names) [
+      | same_name same is ↦ cc
+      | later_name differs before is ↦
+          (let none : place ≡ 0 = cc in
+          rw none (and_from (name_before name other) (ascends_after name_before other names) before up))
+      | earlier_name differs before is ↦
+          elim (err_later (name_place name names) place (sym is ∙ e)) [
+            | later_gap early step there ↦
+                rw step (after_inserted other name names early (before_other other name differs before) up there)
+          ]
+    ]
 
 module _ {X : Type 0} (name_of : X → List ℕ) (name : List ℕ) where
   abbrev pub is_named : X → Bool

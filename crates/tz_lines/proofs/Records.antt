@@ -17,37 +17,13 @@ use Rattle.tz_specs.specs.Causes.{least_cause, unless_cause}
 use Rattle.tz_specs.specs.Line.{line_length}
 use Rattle.tz_specs.specs.Field.{fields_of}
 use Rattle.tz_specs.specs.Word.{named_entry}
-use Rattle.tz_specs.specs.Value.{field_at, month_named, years_of, time_of, stdoff_of, save_of, rules_of, format_of, letters_of, names_set, is_bad_name, is_long_name}
+use Rattle.tz_specs.specs.Value.{field_at, month_named, years_of, time_of, stdoff_of, save_of, rules_of, format_of, letters_of, is_bad_name, is_long_name}
 use Rattle.tz_specs.specs.Written.{WrittenRule, WrittenSet, WrittenRules, WrittenUntil, WrittenLine, Record, RuleRecord, ZoneRecord, Continuation, LinkRecord}
-use Rattle.tz_specs.specs.Record.{Kind, RuleLine, ZoneLine, LinkLine, ContinuationLine, keyword_table, kind_of_record, has_count, rule_day, rule_causes, line_causes, link_causes, rule_of, until_of, line_of, link_of, record_of}
+use Rattle.tz_specs.specs.Record.{Kind, RuleLine, ZoneLine, LinkLine, ContinuationLine, keyword_table, kind_of_record, has_count, rule_day, rule_causes, link_causes, rule_of, until_of, line_of, link_of, record_of}
 use Rattle.tz_specs.specs.Contents.{Contents, waits, exceeds_rules, exceeds_zones, exceeds_lines, exceeds_links, record_causes, kind_causes, field_causes, fields_or_none, causes_of_line, record_of_fields, line_says, with_rule, with_record, is_set_named}
+use Rattle.tz_records.proofs.LeastCauses.{rows_false, front_false, row_at}
+use Rattle.tz_records.proofs.ZoneLines.{well_named}
 use Rattle.tz_lines.specs.Following.{are_before, may_follow}
-
--- rows without a cause
-
-step : (holds : Bool) (cause : Cause) (rest : Option Cause) → (if holds then Some cause else rest) ≡ None → (holds ≡ false) × (rest ≡ None)
-step true cause rest h = cc
-step false cause rest h = (refl, h)
-
--- a row, and those behind it
-row_false : (row : Cause × Bool) (rows : List (Cause × Bool)) → least_cause (row ∷ rows) ≡ None → row.1 ≡ false
-row_false row rows h = (step row.1 row.0 (least_cause rows) h).0
-
-rows_false : (row : Cause × Bool) (rows : List (Cause × Bool)) → least_cause (row ∷ rows) ≡ None → least_cause rows ≡ None
-rows_false row rows h = (step row.1 row.0 (least_cause rows) h).1
-
-front_false : (rows later : List (Cause × Bool)) → least_cause (rows ++ later) ≡ None → least_cause rows ≡ None
-front_false [] later h = refl
-front_false (row ∷ rows) later h =
-    let first = row_false row (rows ++ later) h in
-    rw first (front_false rows later (rows_false row (rows ++ later) h))
-
-row_at : (rows : List (Cause × Bool)) → least_cause rows ≡ None → (place : ℕ) (row : Cause × Bool) → slice_get rows place ≡ Some row → row.1 ≡ false
-row_at [] h place row e = cc
-row_at (first ∷ rows) h zero row e =
-    let same = same_Some first row e in
-    ap (λ (it : Cause × Bool). it.1) (sym same) ∙ row_false first rows h
-row_at (first ∷ rows) h (suc place) row e = row_at rows (rows_false first rows h) place row e
 
 -- what no cause of a kind of line says of the limit
 
@@ -59,11 +35,6 @@ rule_room too_many fields h =
 link_room : (too_many : Bool) (fields : List (List ℕ)) → least_cause (link_causes too_many fields) ≡ None → too_many ≡ false
 link_room too_many fields h =
     (or_parts (is_long_name (field_at 1 fields) || is_long_name (field_at 2 fields)) too_many (row_at (link_causes too_many fields) h 1 (causes.Limit, is_long_name (field_at 1 fields) || is_long_name (field_at 2 fields) || too_many) refl)).1
-
-line_room : (badly_named too_many : Bool) (fields : List (List ℕ)) → least_cause (line_causes badly_named too_many fields) ≡ None → too_many ≡ false
-unfolding line_causes
-line_room badly_named too_many fields h =
-    (or_parts too_many (names_set (field_at 1 fields) && is_long_name (field_at 1 fields)) (row_at (line_causes badly_named too_many fields) h 8 (causes.Limit, too_many || (names_set (field_at 1 fields) && is_long_name (field_at 1 fields))) refl)).0
 
 -- a rule stands at its line
 
@@ -221,14 +192,14 @@ by_kind : (contents : Contents) (number : ℕ) (fields : List (List ℕ)) (kind 
 by_kind contents number fields RuleLine said named none e h =
     rule_follows contents number (field_at 1 fields) (rule_of number fields) said (rule_line number fields) e (rule_room (exceeds_rules (field_at 1 fields) contents) fields none) h
 by_kind contents number fields ZoneLine said named none e h =
-    let room = line_room (is_bad_name (field_at 1 fields)) (is_long_name (field_at 1 fields) || exceeds_zones contents) (drop 2 fields) none in
-    zone_follows contents number (field_at 1 fields) (line_of number (drop 2 fields)) said (zone_line number (drop 2 fields)) e (or_parts (is_long_name (field_at 1 fields)) (exceeds_zones contents) room).1 h
+    let good = well_named (is_bad_name (field_at 1 fields)) (is_long_name (field_at 1 fields) || exceeds_zones contents) (drop 2 fields) none in
+    zone_follows contents number (field_at 1 fields) (line_of number (drop 2 fields)) said (zone_line number (drop 2 fields)) e (or_parts (is_long_name (field_at 1 fields)) (exceeds_zones contents) good.1).1 h
 by_kind contents number fields LinkLine said named none e h =
     let same = same_Some (LinkRecord (link_of number fields)) said e in
     let room = link_room (exceeds_links contents) fields none in
     subst (Follows contents number) same (record { may = rw room refl; begins = tt; before = still_before number contents.sets h })
 by_kind contents number fields ContinuationLine said named none e h =
-    continuation_follows contents number (line_of number fields) said e (waits_for (waits contents) fields named) (line_room false (exceeds_lines contents) fields none) h
+    continuation_follows contents number (line_of number fields) said e (waits_for (waits contents) fields named) (well_named false (exceeds_lines contents) fields none).1 h
 
 by_named : (contents : Contents) (number : ℕ) (fields : List (List ℕ)) (kind : Option Kind) (said : Record) → kind_of_record (waits contents) fields ≡ kind → least_cause (kind_causes contents kind fields) ≡ None → (kind >>= λ it. record_of it number fields) ≡ Some said → are_before number contents.sets ≡ true → Follows contents number said
 by_named contents number fields None said named none e h = cc

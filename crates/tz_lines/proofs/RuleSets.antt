@@ -1,5 +1,5 @@
 -- Rule sets in the order of their names, with one more rule.
-use Rattle.std.proofs.Common.{◌≡◌, ℕ, zero, suc, ◌<◌, ◌≤◌, true, false, ◌&&◌, nat_le, nat_lt, IsTrue, List, [], ◌∷◌, ◌++◌, length, map, get_or, set, Some, Result, Ok, Err, refl, sym, ap, ◌∙◌, arith}
+use Rattle.std.proofs.Common.{◌≡◌, ℕ, zero, suc, ◌<◌, ◌≤◌, true, false, nat_le, nat_lt, IsTrue, List, [], ◌∷◌, ◌++◌, length, map, get_or, set, Some, Result, Ok, Err, refl, sym, ap, ◌∙◌, arith}
 use Rattle.std.proofs.lemmas.Bool.{and_parts, and_from}
 use Rattle.std.specs.List.{find, insert, list_all}
 use Rattle.std.specs.Result.{OnOk, OnErr}
@@ -14,8 +14,9 @@ use Rattle.tz_specs.specs.Written.{WrittenRule, WrittenSet, written_rule, writte
 use Rattle.tz_specs.specs.Contents.{is_set_named, with_rule, is_full_set}
 use Rattle.tz_lines.specs.NamePlace.{name_place}
 use Rattle.tz_lines.specs.Following.{are_before}
-use Rattle.tz_lines.proofs.NameOrder.{Ascend, before_other}
-use Rattle.tz_lines.proofs.NamesFound.{found-find, found-named, missing-find, place_empty, same_name, later_name, earlier_name, stands, later_place, ok_later, later_gap, err_later}
+use Rattle.tz_lines.proofs.BuiltLines.{map_insert}
+use Rattle.tz_lines.proofs.NameOrder.{Ascend}
+use Rattle.tz_lines.proofs.NamesFound.{found-find, found-named, missing-find, place_empty, same_name, later_name, earlier_name, stands, ascends_inserted, later_place, ok_later, later_gap, err_later}
 
 -- the name of a set as it is written
 abbrev pub name_of : WrittenSet → List ℕ
@@ -98,11 +99,6 @@ with_new (it ∷ sets) name rule place e =
           ]
     ]
 
-map_insert : {X Y : Type 0} (f : X → Y) (xs : List X) (place : ℕ) (x : X) → map f (insert xs place x) ≡ insert (map f xs) place (f x)
-map_insert f xs zero x = refl
-map_insert f [] (suc place) x = refl
-map_insert {Y = Y} f (y ∷ xs) (suc place) x = ap (λ (later : List Y). f y ∷ later) (map_insert f xs place x)
-
 -- a set by its name and its rules
 abbrev set_of : List ℕ → List WrittenRule → WrittenSet
 set_of name rules = record { name = name; rules = rules }
@@ -133,42 +129,6 @@ added_new sets name rule place new e rules named =
     let same : set_of new.name (map written_rule new.rules) ≡ set_of name (written_rule rule ∷ []) = rw (rules, named) refl in
     map_insert written_set sets place new ∙ ap (λ (it : WrittenSet). insert (map written_set sets) place it) same
     ∙ sym (with_new (map written_set sets) name (written_rule rule) place written)
-
--- names with one more in its place
-
-after_inserted : (low name : List ℕ) (names : List (List ℕ)) (place : ℕ) → name_before low name ≡ true → ascends_after name_before low names ≡ true → name_place name names ≡ Err place → ascends_after name_before low (insert names place name) ≡ true
-after_inserted low name [] place below up e =
-    let none : place ≡ 0 = cc (place_empty name) in
-    rw none (and_from (name_before low name) true below refl)
-after_inserted low name (other ∷ names) place below up e =
-    let here = (and_parts (name_before low other) (ascends_after name_before other names) up).0 in
-    let later = (and_parts (name_before low other) (ascends_after name_before other names) up).1 in
-    elim (stands name other names) [
-      | same_name same is ↦ cc
-      | later_name differs before is ↦
-          (let none : place ≡ 0 = cc in
-          rw none (and_from (name_before low name) (name_before name other && ascends_after name_before other names) below (and_from (name_before name other) (ascends_after name_before other names) before later)))
-      | earlier_name differs before is ↦
-          elim (err_later (name_place name names) place (sym is ∙ e)) [
-            | later_gap early step there ↦
-                rw step (and_from (name_before low other) (ascends_after name_before other (insert names early name)) here (after_inserted other name names early (before_other other name differs before) later there))
-          ]
-    ]
-
-ascends_inserted : (name : List ℕ) (names : List (List ℕ)) (place : ℕ) → ascends name_before names ≡ true → name_place name names ≡ Err place → ascends name_before (insert names place name) ≡ true
-ascends_inserted name [] place up e = (let none : place ≡ 0 = cc (place_empty name) in rw none refl)
-ascends_inserted name (other ∷ names) place up e =
-    elim (stands name other names) [
-      | same_name same is ↦ cc
-      | later_name differs before is ↦
-          (let none : place ≡ 0 = cc in
-          rw none (and_from (name_before name other) (ascends_after name_before other names) before up))
-      | earlier_name differs before is ↦
-          elim (err_later (name_place name names) place (sym is ∙ e)) [
-            | later_gap early step there ↦
-                rw step (after_inserted other name names early (before_other other name differs before) up there)
-          ]
-    ]
 
 pub new_ascends : (sets : List RuleSet) (name : List ℕ) (place : ℕ) (new : RuleSet) → IsTrue (ascends name_before (set_names sets)) → name_place name (set_names sets) ≡ Err place → new.name ≡ name → IsTrue (ascends name_before (set_names (insert sets place new)))
 new_ascends sets name place new up e named =

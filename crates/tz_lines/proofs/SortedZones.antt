@@ -1,26 +1,20 @@
 -- Zones that go one after another into their places.
 use Rattle.std.proofs.Common.{◌≡◌, ◌≢◌, ℕ, zero, suc, ◌<◌, Bool, true, IsTrue, List, [], ◌∷◌, ◌++◌, length, get_or, take, map, refl, sym, ap, ◌∙◌, arith, All}
+use Rattle.std.proofs.lemmas.Bool.{and_parts, and_from}
 use Rattle.std.specs.List.{list_all, insert, AllPairs}
 use Rattle.std.specs.List.Sorted.{IsPermutation}
 use Rattle.std.proofs.lemmas.List.{map-append, map-id, take-map, get_or-map, get_or-take, length-take-le, length-map}
+use Rattle.std.proofs.lemmas.Simd.{map-map}
 use Rattle.std.proofs.lemmas.List.Sorted.{IsPermutation-map, IsPermutation-insert, IsPermutation-push_more, All-permutation}
 use Rattle.tz_types.specs.Order.{ascends, name_before}
 use Rattle.tz_types.specs.declared.zone.Zone.{Zone}
 use Rattle.tz_specs.specs.Written.{WrittenZone, written_zone}
 use Rattle.tz_lines.specs.declared.contents.EntryZone.{EntryZone}
 use Rattle.tz_lines.specs.Gathered.{written_entry_zone}
-use Rattle.tz_lines.proofs.BuiltLines.{both, first_of_two, second_of_two}
+use Rattle.tz_lines.proofs.BuiltLines.{map_insert}
 
 abbrev name_written : WrittenZone → List ℕ
 name_written zone = zone.name
-
-names_of_zones : (names : List (List ℕ)) (zones : List Zone) → map name_written (map (written_zone names) zones) ≡ map (λ (zone : Zone). zone.name) zones
-names_of_zones names [] = refl
-names_of_zones names (zone ∷ zones) = ap (λ (rest : List (List ℕ)). zone.name ∷ rest) (names_of_zones names zones)
-
-names_of_entries : (zones : List EntryZone) → map name_written (map written_entry_zone zones) ≡ map (λ (zone : EntryZone). zone.name) zones
-names_of_entries [] = refl
-names_of_entries (zone ∷ zones) = ap (λ (rest : List (List ℕ)). zone.name ∷ rest) (names_of_entries zones)
 
 -- none of those before a place has the name there
 none_before : {A : Type 0} (key : A → List ℕ) (xs : List A) (place : ℕ) (x : A) → AllPairs ◌≢◌ (map key xs) → place < length xs → x ≡ get_or xs place x → All (λ other. other ≢ key x) (map key (take place xs))
@@ -37,23 +31,18 @@ pub new_name : (all yielded : List EntryZone) (built : List Zone) (zone : EntryZ
 new_name all yielded built zone apart so_far low is same =
     let front : yielded ≡ take (length yielded) all = sym (map-id yielded) ∙ so_far in
     let none = none_before (λ (zone : EntryZone). zone.name) all (length yielded) zone apart low is in
-    let among : All (λ other. other ≢ zone.name) (map name_written (map written_entry_zone yielded)) = rw (names_of_entries yielded) (rw (← front) at none) in
-    rw (names_of_zones [] built) at (All-permutation (λ other. other ≢ zone.name) (map name_written (map written_entry_zone yielded)) (map name_written (map (written_zone []) built)) (IsPermutation-map name_written (map written_entry_zone yielded) (map (written_zone []) built) same) among)
+    let among : All (λ other. other ≢ zone.name) (map name_written (map written_entry_zone yielded)) = rw (map-map name_written written_entry_zone yielded) (rw (← front) at none) in
+    rw (map-map name_written (written_zone []) built) at (All-permutation (λ other. other ≢ zone.name) (map name_written (map written_entry_zone yielded)) (map name_written (map (written_zone []) built)) (IsPermutation-map name_written (map written_entry_zone yielded) (map (written_zone []) built) same) among)
 
 all_insert : {A : Type 0} (p : A → Bool) (xs : List A) (place : ℕ) (x : A) → IsTrue (list_all p xs) → IsTrue (p x) → IsTrue (list_all p (insert xs place x))
-all_insert {A} p xs zero x all here = both (p x) (list_all p xs) here all
-all_insert {A} p [] (suc place) x all here = both (p x) true here refl
+all_insert {A} p xs zero x all here = and_from (p x) (list_all p xs) here all
+all_insert {A} p [] (suc place) x all here = and_from (p x) true here refl
 all_insert {A} p (y ∷ xs) (suc place) x all here =
-    both (p y) (list_all p (insert xs place x)) (first_of_two (p y) (list_all p xs) all) (all_insert p xs place x (second_of_two (p y) (list_all p xs) all) here)
+    and_from (p y) (list_all p (insert xs place x)) (and_parts (p y) (list_all p xs) all).0 (all_insert p xs place x (and_parts (p y) (list_all p xs) all).1 here)
 
 -- one more that passes, in its place
 pub all_placed : {A : Type 0} (p : A → Bool) (xs after : List A) (place : ℕ) (x : A) → after ≡ insert xs place x → IsTrue (list_all p xs) → IsTrue (p x) → IsTrue (list_all p after)
 all_placed {A} p xs after place x is all here = rw is (all_insert p xs place x all here)
-
-map_insert : {A B : Type 0} (f : A → B) (xs : List A) (place : ℕ) (x : A) → map f (insert xs place x) ≡ insert (map f xs) place (f x)
-map_insert {A} {B} f xs zero x = refl
-map_insert {A} {B} f [] (suc place) x = refl
-map_insert {A} {B} f (y ∷ xs) (suc place) x = ap (λ (rest : List B). f y ∷ rest) (map_insert f xs place x)
 
 -- names still ascend, with one more in its place
 pub ascends_placed : (zones after : List Zone) (place : ℕ) (zone : Zone) (name : List ℕ) → after ≡ insert zones place zone → zone.name ≡ name → IsTrue (ascends name_before (insert (map (λ (zone : Zone). zone.name) zones) place name)) → IsTrue (ascends name_before (map (λ (zone : Zone). zone.name) after))

@@ -1,8 +1,7 @@
 -- What is told of a list, one element after another.
-use Rattle.std.proofs.Common.{◌≡◌, ℕ, ◌+◌, ◌<◌, ◌≤◌, List, [], ◌∷◌, ◌++◌, length, get_or, drop, map, Option, Some, None, refl, sym}
-use Rattle.std.specs.Option.{option_to_list}
-use Rattle.std.specs.List.{filter_map, cons_option}
-use Rattle.std.proofs.lemmas.List.{drop_more, drop_all}
+use Rattle.std.proofs.Common.{◌≡◌, ℕ, ◌+◌, ◌<◌, List, [], ◌∷◌, ◌++◌, length, get_or, drop, Option, refl, sym}
+use Rattle.std.specs.List.{filter_map}
+use Rattle.std.proofs.lemmas.List.{drop_more}
 use Rattle.std.proofs.lemmas.List.Elements.{filter_map-append}
 use Rattle.tz_types.specs.declared.fault.Fault.{Fault}
 use Rattle.tz_lines.specs.Told.{lesser, told_with}
@@ -16,18 +15,6 @@ pub told_more : {A : Type 0} (f : A → List Fault) (all : List A → List Fault
 told_more {A} f all by_each xs place x least next low is e =
     let rest : drop place xs ≡ x ∷ drop (place + 1) xs = rw (drop_more xs place x low) (rw (← is) refl) in
     rw e (rw rest (rw (by_each x (drop (place + 1) xs)) (sym (told-append least (f x) (all (drop (place + 1) xs))))))
-
--- the end of the list
-pub told_end : {A : Type 0} (all : List A → List Fault) → all [] ≡ [] → (xs : List A) (place : ℕ) (least : Option Fault) → length xs ≤ place → told_with least (all (drop place xs)) ≡ least
-told_end {A} all none xs place least high = rw (drop_all place xs high) (rw none refl)
-
--- the faults of the elements that have one
-pub each_that_has : {A B : Type 0} (f : B → Option Fault) (view : A → B) (x : A) (xs : List A) → filter_map f (map view (x ∷ xs)) ≡ option_to_list (f (view x)) ++ filter_map f (map view xs)
-each_that_has {A} {B} f view x xs = by_fault (f (view x))
-  where
-    by_fault : (fault : Option Fault) → cons_option fault (filter_map f (map view xs)) ≡ option_to_list fault ++ filter_map f (map view xs)
-    by_fault None = refl
-    by_fault (Some fault) = refl
 
 -- what some elements have, and then what some more have
 pub told_in_turn : {A : Type 0} (f : A → Option Fault) (first second : List A) (least between after : Option Fault) → between ≡ told_with least (filter_map f first) → after ≡ told_with between (filter_map f second) → after ≡ told_with least (filter_map f (first ++ second))

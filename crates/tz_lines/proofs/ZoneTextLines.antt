@@ -1,22 +1,22 @@
 -- What a line of a zone text says, by its fields.
-use Rattle.std.proofs.Common.{◌≡◌, ℕ, ◌+◌, ◌<◌, ◌≤◌, Bool, true, false, nat_le, nat_lt, ◌==◌, List, [], ◌∷◌, ◌++◌, length, Option, Some, None, option_map, Result, Ok, Err, IfOk, IfErr, refl, sym, ap, ◌∙◌, arith}
-use Rattle.std.specs.Option.{is_none}
+use Rattle.std.proofs.Common.{◌≡◌, ℕ, ◌+◌, ◌<◌, ◌≤◌, Bool, true, false, nat_le, nat_lt, ◌==◌, List, [], ◌∷◌, ◌++◌, length, Option, Some, None, option_map, Result, Ok, Err, IfOk, IfErr, refl, arith}
 use Rattle.std.specs.List.{list_any}
-use Rattle.std.proofs.lemmas.Bool.{and_parts, leb-true, eqb-true, lt-ltb, le-ltb}
-use Rattle.std.proofs.lemmas.List.{take_all}
+use Rattle.std.proofs.lemmas.Bool.{and_parts, leb-true, eqb-true}
 use Rattle.tz_types.specs.declared.cause.Cause.{Cause}
 use Rattle.tz_types.specs.declared.cause.Cause.TheVariants as causes
 use Rattle.tz_text.specs.Kept.{Kept, kept_of, most_kept}
-use Rattle.tz_specs.specs.Line.{line_length}
 use Rattle.tz_specs.specs.Field.{fields_of}
 use Rattle.tz_specs.specs.Causes.{least_cause, unless_cause}
 use Rattle.tz_specs.specs.Written.{Record}
 use Rattle.tz_specs.specs.Record.{Kind, RuleLine, ZoneLine, LinkLine, ContinuationLine, kind_of_record, has_count, record_of}
-use Rattle.tz_specs.specs.Contents.{Contents, waits, record_causes, field_causes, record_of_fields, fields_or_none, line_says}
-use Rattle.tz_lines.specs.declared.entry.Entry.{Entry}
-use Rattle.tz_lines.specs.Entry.{written_entry}
-use Rattle.tz_lines.specs.LineOutcome.{Tells, fields_say, unless_late, Means}
-use Rattle.tz_lines.proofs.LeastCauses.{least_before, least_after}
+use Rattle.tz_specs.specs.Contents.{Contents, waits, record_causes, field_causes, record_of_fields, line_says}
+use Rattle.tz_records.specs.declared.entry.Entry.{Entry}
+use Rattle.tz_records.specs.Entry.{written_entry}
+use Rattle.tz_records.specs.Tells.{Tells, unless_late}
+use Rattle.tz_records.proofs.KeptFields.{count_kept, none_kept, all_kept}
+use Rattle.tz_records.proofs.LeastCauses.{least_before, least_after, same_tells}
+use Rattle.tz_records.proofs.LineCauses as lines
+use Rattle.tz_lines.specs.LineOutcome.{fields_say, Means}
 
 -- no record has more fields than are kept
 pub few_counted : (kind : Kind) (count : ℕ) → has_count kind count ≡ true → count ≤ most_kept
@@ -33,11 +33,6 @@ few_counted ContinuationLine count h =
     let high = leb-true count 7 (and_parts (nat_le 3 count) (nat_le count 7) h).1 in
     omega arith
 
-none_kept : {A : Type 0} (kept : Kept) → kept_of [] ≡ kept → 0 < kept.count → A
-none_kept kept e some =
-    let count : 0 ≡ kept.count = ap (λ (it : Kept). it.count) e in
-    absurd (omega arith)
-
 -- a first field that names no keyword
 pub no_kind : (contents : Contents) (all : List (List ℕ)) (kept : Kept) → kept_of all ≡ kept → 0 < kept.count → kind_of_record (waits contents) all ≡ None → least_cause (field_causes contents all) ≡ Some causes.Keyword
 no_kind contents [] kept e some none = none_kept kept e some
@@ -47,89 +42,54 @@ no_kind contents (field ∷ fields) kept e some none = rw none refl
 pub other_count : (contents : Contents) (all : List (List ℕ)) (kept : Kept) (kind : Kind) → kept_of all ≡ kept → 0 < kept.count → kind_of_record (waits contents) all ≡ Some kind → has_count kind kept.count ≡ false → least_cause (field_causes contents all) ≡ Some causes.FieldCount
 other_count contents [] kept kind e some is other = none_kept kept e some
 other_count contents (field ∷ fields) kept kind e some is other =
-    let count : length (field ∷ fields) ≡ kept.count = ap (λ (it : Kept). it.count) e in
+    let count = count_kept (field ∷ fields) kept e in
     rw (is, count, other) refl
-
-all_kept : (all : List (List ℕ)) (kept : Kept) → kept_of all ≡ kept → kept.count ≤ most_kept → kept.first ≡ all
-all_kept all kept e few =
-    let count : length all ≡ kept.count = ap (λ (it : Kept). it.count) e in
-    sym (ap (λ (it : Kept). it.first) e) ∙ take_all most_kept all (omega arith)
-
-same_tells : (rows others : List (Cause × Bool)) (said other : Option Record) (told : Result Entry Cause) → least_cause others ≡ least_cause rows → other ≡ said → Tells written_entry rows said told → Tells written_entry others other told
-same_tells rows others said other (Ok entry) e is tells = (e ∙ tells.0, is ∙ tells.1)
-same_tells rows others said other (Err cause) e is tells = e ∙ tells
 
 -- a record that has its fields
 pub counted_fields : (contents : Contents) (number : ℕ) (all : List (List ℕ)) (kept : Kept) (kind : Kind) (told : Result Entry Cause) → kept_of all ≡ kept → 0 < kept.count → kind_of_record (waits contents) all ≡ Some kind → has_count kind kept.count ≡ true → Tells written_entry (record_causes contents kind kept.first) (record_of kind number kept.first) told → Tells written_entry (field_causes contents all) (record_of_fields contents number all) told
 counted_fields contents number [] kept kind told e some is counted tells = none_kept kept e some
 counted_fields contents number (field ∷ fields) kept kind told e some is counted tells =
-    let count : length (field ∷ fields) ≡ kept.count = ap (λ (it : Kept). it.count) e in
+    let count = count_kept (field ∷ fields) kept e in
     let whole : kept.first ≡ field ∷ fields = all_kept (field ∷ fields) kept e (few_counted kind kept.count counted) in
-    same_tells (record_causes contents kind (field ∷ fields)) (field_causes contents (field ∷ fields)) (record_of kind number (field ∷ fields)) (record_of_fields contents number (field ∷ fields)) told (rw (is, count, counted) refl) (rw is refl) (rw whole at tells)
+    same_tells written_entry (record_causes contents kind (field ∷ fields)) (field_causes contents (field ∷ fields)) (record_of kind number (field ∷ fields)) (record_of_fields contents number (field ∷ fields)) told (rw (is, count, counted) refl) (rw is refl) (rw whole at tells)
 
--- a line that is one too many
-
-by_limit : (late : Bool) (said : Option Record) (told : Option Entry) → said ≡ option_map written_entry told → Means (unless_late late told) (unless_cause (least_cause ((causes.Limit, late) ∷ [])) said)
-by_limit true said told e = refl
-by_limit false said told e = rw e refl
-
--- a blank line
-pub blank_fields : (contents : Contents) (number : ℕ) (all : List (List ℕ)) (kept : Kept) → kept_of all ≡ kept → kept.count ≡ 0 → Means (unless_late (nat_lt 100_000 number) None) (fields_say contents number all)
-blank_fields contents number [] kept e none = by_limit (nat_lt 100_000 number) None None refl
-blank_fields contents number (field ∷ fields) kept e none =
-    let count : length (field ∷ fields) ≡ kept.count = ap (λ (it : Kept). it.count) e in
-    absurd (omega arith)
+late_means : (late : Bool) (told : Option Entry) → Means (unless_late late told) (unless_cause (least_cause ((causes.Limit, late) ∷ [])) (option_map written_entry told))
+late_means true told = refl
+late_means false told = refl
 
 -- a record without a cause, and one with one
 
 pub told_fields : (contents : Contents) (number : ℕ) (all : List (List ℕ)) (entry : Entry) → Tells written_entry (field_causes contents all) (record_of_fields contents number all) (Ok entry) → Means (unless_late (nat_lt 100_000 number) (Some entry)) (fields_say contents number all)
 told_fields contents number all entry tells =
-    rw (least_after (field_causes contents all) ((causes.Limit, nat_lt 100_000 number) ∷ []) tells.0) (by_limit (nat_lt 100_000 number) (record_of_fields contents number all) (Some entry) tells.1)
+    rw (least_after (field_causes contents all) ((causes.Limit, nat_lt 100_000 number) ∷ []) tells.0, tells.1) (late_means (nat_lt 100_000 number) (Some entry))
 
 pub refused_fields : (contents : Contents) (number : ℕ) (all : List (List ℕ)) (cause : Cause) → least_cause (field_causes contents all) ≡ Some cause → fields_say contents number all ≡ Err cause
 refused_fields contents number all cause h =
     rw (least_before (field_causes contents all) ((causes.Limit, nat_lt 100_000 number) ∷ []) cause h) refl
 
--- a line too long, and one with a NUL byte
+-- the causes of the fields of a line, with that of its place
+abbrev rows_at : Contents → ℕ → List (List ℕ) → List (Cause × Bool)
+rows_at contents number fields = field_causes contents fields ++ (causes.Limit, nat_lt 100_000 number) ∷ []
 
 pub long_line : (contents : Contents) (number : ℕ) (line : List ℕ) → 2_048 < length line + 1 → line_says contents number line ≡ Err causes.LongLine
 unfolding line_says
-long_line contents number line h =
-    rw (lt-ltb 2_048 (line_length line) h) refl
+long_line contents number line long =
+    lines.long_line (rows_at contents number) (record_of_fields contents number) line long
 
 pub nul_line : (contents : Contents) (number : ℕ) (line : List ℕ) → length line + 1 ≤ 2_048 → list_any (λ byte. byte == 0) line ≡ true → line_says contents number line ≡ Err causes.Nul
 unfolding line_says
-nul_line contents number line h nul =
-    rw (le-ltb 2_048 (line_length line) h, nul) refl
-
--- what a line says by its fields
-says_by : Contents → ℕ → Option (List (List ℕ)) → Result (Option Record) Cause
-says_by contents number read =
-    unless_cause (least_cause ((causes.OpenQuote, is_none read) ∷ (field_causes contents (fields_or_none read) ++ (causes.Limit, nat_lt 100_000 number) ∷ []))) (record_of_fields contents number (fields_or_none read))
-
-short_line : (contents : Contents) (number : ℕ) (line : List ℕ) → length line + 1 ≤ 2_048 → list_any (λ byte. byte == 0) line ≡ false → line_says contents number line ≡ says_by contents number (fields_of line)
-unfolding line_says says_by
-short_line contents number line h nul =
-    rw (le-ltb 2_048 (line_length line) h, nul) refl
-
-says_open : (contents : Contents) (number : ℕ) (read : Option (List (List ℕ))) → read ≡ None → says_by contents number read ≡ Err causes.OpenQuote
-unfolding says_by
-says_open contents number read e = rw e refl
+nul_line contents number line short nul =
+    lines.nul_line (rows_at contents number) (record_of_fields contents number) line short nul
 
 pub open_line : (contents : Contents) (number : ℕ) (line : List ℕ) → length line + 1 ≤ 2_048 → list_any (λ byte. byte == 0) line ≡ false → fields_of line ≡ None → line_says contents number line ≡ Err causes.OpenQuote
-open_line contents number line h nul e =
-    short_line contents number line h nul ∙ says_open contents number (fields_of line) e
-
-says_fields : (contents : Contents) (number : ℕ) (read : Option (List (List ℕ))) (kept : Kept) (told : Result (Option Entry) Cause) → option_map kept_of read ≡ Some kept → ((all : List (List ℕ)) → kept_of all ≡ kept → Means told (fields_say contents number all)) → Means told (says_by contents number read)
-unfolding says_by
-says_fields contents number None kept told e says = cc
-says_fields contents number (Some all) kept told e says =
-    let same : kept_of all ≡ kept = cc in
-    says all same
+unfolding line_says
+open_line contents number line short nul e =
+    lines.open_line (rows_at contents number) (record_of_fields contents number) line short nul e
 
 pub whole_line : (contents : Contents) (number : ℕ) (line : List ℕ) (kept : Kept) (told : Result (Option Entry) Cause) → length line + 1 ≤ 2_048 → list_any (λ byte. byte == 0) line ≡ false → option_map kept_of (fields_of line) ≡ Some kept → ((all : List (List ℕ)) → kept_of all ≡ kept → Means told (fields_say contents number all)) → Means told (line_says contents number line)
-whole_line contents number line kept told h nul e says =
-    rw (short_line contents number line h nul) (says_fields contents number (fields_of line) kept told e says)
+unfolding line_says
+whole_line contents number line kept told short nul e says =
+    lines.whole_line (rows_at contents number) (record_of_fields contents number) (Means told) line kept short nul e says
 
 -- the two sides of what is meant
 

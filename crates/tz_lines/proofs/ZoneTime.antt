@@ -1,5 +1,6 @@
 -- Lines of zones without faults lead through all of time.
 use Rattle.std.proofs.Common.{◌≡◌, ℕ, Bool, true, false, ◌&&◌, if◌then◌else◌, IsTrue, List, [], ◌∷◌, map, Option, Some, None, is_some, option_map, refl, arith, ℤ, int_lt, ◌<ℤ◌, All}
+use Rattle.std.proofs.lemmas.Bool.{and_parts, and_from}
 use Rattle.std.specs.List.{list_all, filter_map, flat_map, last_or}
 use Rattle.std.specs.List.Sorted.{IsPermutation}
 use Rattle.std.specs.Ordering.{int_eq}
@@ -24,11 +25,11 @@ use Rattle.tz_specs.specs.Written.{WrittenUntil, WrittenLine, WrittenZone, writt
 use Rattle.tz_specs.specs.Whole.{fault_where, missing_continuation}
 use Rattle.tz_specs.specs.Unbuilt.{is_text, has_no_rules, is_plain, is_plain_zone, is_built, plain_finish, late_plain_lines}
 use Rattle.tz_lines.specs.PlainZone.{is_built_zone}
-use Rattle.tz_lines.specs.declared.entry.EntryLine.{EntryLine}
+use Rattle.tz_records.specs.declared.entry.EntryLine.{EntryLine}
 use Rattle.tz_lines.specs.declared.contents.EntryZone.{EntryZone}
-use Rattle.tz_lines.specs.Entry.{written_entry_line, are_continued}
+use Rattle.tz_records.specs.Entry.{written_entry_line}
+use Rattle.tz_lines.specs.Continued.{are_continued}
 use Rattle.tz_lines.specs.Gathered.{written_entry_zone}
-use Rattle.tz_lines.proofs.BuiltLines.{both, first_of_two, second_of_two}
 use Rattle.tz_lines.proofs.Faultless.{none_first, none_second, none_of_first, none_of_rest}
 use Rattle.tz_lines.proofs.UntilBounds.{until_in_time}
 
@@ -73,13 +74,13 @@ runs_on start (line ∷ []) continued built finished timely =
     no_until (option_map written_until line.until) line.line finished
 runs_on start (line ∷ next ∷ lines) continued built finished timely =
     let later = map written_entry_line (next ∷ lines) in
-    let ends = ends_some_time line line.until refl (first_of_two (is_some line.until) (are_continued (next ∷ lines)) continued) in
-    let here = first_of_two (is_built (written_entry_line line)) (list_all is_built later) built in
+    let ends = ends_some_time line line.until refl (and_parts (is_some line.until) (are_continued (next ∷ lines)) continued).0 in
+    let here = (and_parts (is_built (written_entry_line line)) (list_all is_built later) built).0 in
     let after = on_time start ends.0 (written_entry_line line) later here ends.1 timely in (
       ends.0,
       ends.1,
       after.0,
-      runs_on ends.0 (next ∷ lines) (second_of_two (is_some line.until) (are_continued (next ∷ lines)) continued) (second_of_two (is_built (written_entry_line line)) (list_all is_built later) built) finished after.1,
+      runs_on ends.0 (next ∷ lines) (and_parts (is_some line.until) (are_continued (next ∷ lines)) continued).1 (and_parts (is_built (written_entry_line line)) (list_all is_built later) built).1 finished after.1,
     )
 
 -- each zone runs on
@@ -92,9 +93,9 @@ zones_run_on (zone ∷ zones) built finished timely =
     let here = written_entry_zone zone in
     let rest = map written_entry_zone zones in
     let late = flat_map (λ zone. late_plain_lines first_instant zone.lines) rest in
-    let runs = runs_on first_instant zone.lines zone.continued (first_of_two (is_built_zone here) (list_all is_built_zone rest) built) (none_of_first (missing_continuation here) (filter_map missing_continuation rest) finished) (none_first (late_plain_lines first_instant here.lines) late timely) in
+    let runs = runs_on first_instant zone.lines zone.continued (and_parts (is_built_zone here) (list_all is_built_zone rest) built).0 (none_of_first (missing_continuation here) (filter_map missing_continuation rest) finished) (none_first (late_plain_lines first_instant here.lines) late timely) in
     All-cons ZoneRunsOn here rest runs
-    (zones_run_on zones (second_of_two (is_built_zone here) (list_all is_built_zone rest) built) (none_of_rest (missing_continuation here) (filter_map missing_continuation rest) finished) (none_second (late_plain_lines first_instant here.lines) late timely))
+    (zones_run_on zones (and_parts (is_built_zone here) (list_all is_built_zone rest) built).1 (none_of_rest (missing_continuation here) (filter_map missing_continuation rest) finished) (none_second (late_plain_lines first_instant here.lines) late timely))
 
 -- ---- what runs on leads through time
 
@@ -130,31 +131,31 @@ leads_from sets names start (line ∷ []) plain before runs =
     let ends = ends_last sets line line.until refl runs in
     rw ends (grind (arith, ints))
 leads_from sets names start (line ∷ next ∷ lines) plain before runs =
-    let here = first_of_two (is_plain line) (list_all is_plain (next ∷ lines)) plain in
-    let ends = ends_before sets line line.until runs.0 refl (first_of_two (has_no_rules line.rules) (is_text line.format) here) runs.1 in
-    let later = leads_from sets names runs.0 (next ∷ lines) (second_of_two (is_plain line) (list_all is_plain (next ∷ lines)) plain) ends.1 runs.3 in
+    let here = (and_parts (is_plain line) (list_all is_plain (next ∷ lines)) plain).0 in
+    let ends = ends_before sets line line.until runs.0 refl (and_parts (has_no_rules line.rules) (is_text line.format) here).0 runs.1 in
+    let later = leads_from sets names runs.0 (next ∷ lines) (and_parts (is_plain line) (list_all is_plain (next ∷ lines)) plain).1 ends.1 runs.3 in
     rw ends.0 (leads_on start runs.0 (leads runs.0 end_of_time (periods_from sets runs.0 (next ∷ lines))) runs.2 later)
 
 all_known : (sets : List RuleSet) (lines : List ZoneLine) → IsTrue (list_all is_plain lines) → IsTrue (list_all (λ line. is_known sets line.rules) lines)
 all_known sets [] plain = refl
 all_known sets (line ∷ lines) plain =
-    both (is_known sets line.rules) (list_all (λ line. is_known sets line.rules) lines)
-    (known_rules sets line.rules (first_of_two (has_no_rules line.rules) (is_text line.format) (first_of_two (is_plain line) (list_all is_plain lines) plain)))
-    (all_known sets lines (second_of_two (is_plain line) (list_all is_plain lines) plain))
+    and_from (is_known sets line.rules) (list_all (λ line. is_known sets line.rules) lines)
+    (known_rules sets line.rules (and_parts (has_no_rules line.rules) (is_text line.format) (and_parts (is_plain line) (list_all is_plain lines) plain).0).0)
+    (all_known sets lines (and_parts (is_plain line) (list_all is_plain lines) plain).1)
 
 zone_sound : (db : Db) (names : List (List ℕ)) (zone : Zone) → IsTrue (is_plain_zone zone) → ZoneRunsOn (written_zone names zone) → IsTrue (is_sound_zone db zone)
 unfolding periods_of
 zone_sound db names zone plain runs =
     let begins : first_instant <ℤ end_of_time = omega (arith, ints) in
-    both (list_all (λ line. is_known db.sets line.rules) zone.lines) (leads first_instant end_of_time (periods_from db.sets first_instant zone.lines)) (all_known db.sets zone.lines plain) (leads_from db.sets names first_instant zone.lines plain begins runs)
+    and_from (list_all (λ line. is_known db.sets line.rules) zone.lines) (leads first_instant end_of_time (periods_from db.sets first_instant zone.lines)) (all_known db.sets zone.lines plain) (leads_from db.sets names first_instant zone.lines plain begins runs)
 
 zones_sound : (db : Db) (names : List (List ℕ)) (zones : List Zone) → IsTrue (list_all is_plain_zone zones) → All ZoneRunsOn (map (written_zone names) zones) → IsTrue (list_all (is_sound_zone db) zones)
 zones_sound db names [] plain run = refl
 zones_sound db names (zone ∷ zones) plain run =
     let rest = map (written_zone names) zones in
-    both (is_sound_zone db zone) (list_all (is_sound_zone db) zones)
-    (zone_sound db names zone (first_of_two (is_plain_zone zone) (list_all is_plain_zone zones) plain) (All-head ZoneRunsOn (written_zone names zone) rest run))
-    (zones_sound db names zones (second_of_two (is_plain_zone zone) (list_all is_plain_zone zones) plain) (All-tail ZoneRunsOn (written_zone names zone) rest run))
+    and_from (is_sound_zone db zone) (list_all (is_sound_zone db) zones)
+    (zone_sound db names zone (and_parts (is_plain_zone zone) (list_all is_plain_zone zones) plain).0 (All-head ZoneRunsOn (written_zone names zone) rest run))
+    (zones_sound db names zones (and_parts (is_plain_zone zone) (list_all is_plain_zone zones) plain).1 (All-tail ZoneRunsOn (written_zone names zone) rest run))
 
 -- zones in another order, as a database has them, are sound
 pub built_zones_sound : (db : Db) (names : List (List ℕ)) (zones : List WrittenZone) → All ZoneRunsOn zones → IsPermutation zones (map (written_zone names) db.zones) → IsTrue (list_all is_plain_zone db.zones) → IsTrue (list_all (is_sound_zone db) db.zones)

@@ -2,7 +2,7 @@
 use Rattle.std.specs.Prelude.{map}
 use Rattle.tz_specs.specs.Written.{WrittenZone, written_set, written_link}
 use Rattle.tz_specs.specs.Contents.{Contents}
-use Rattle.tz_lines.specs.Entry.{written_entry_line}
+use Rattle.tz_records.specs.Entry.{written_entry_line}
 use Rattle.tz_lines.specs.declared.contents.EntryZone.{EntryZone}
 use Rattle.tz_lines.specs.declared.contents.Gathered.{Gathered}
 

@@ -1,32 +1,12 @@
 -- What the lines of a leap text come to, when records stand before them.
-use Rattle.std.specs.Prelude.{◌≡◌, ℕ, ◌+◌, Bool, true, false, nat_lt, nat_le, ◌||◌, if◌then◌else◌, int_lt, List, [], ◌∷◌, ◌++◌, ℤ, Option, Some, None, Result, Ok, Err}
+use Rattle.std.specs.Prelude.{◌≡◌, ℕ, ◌+◌, Bool, true, false, if◌then◌else◌, int_lt, List, [], ◌∷◌, ℤ, Option, Some, None, Result, Ok, Err}
 use Rattle.std.specs.List.{insert, position_or_len}
-use Rattle.tz_types.specs.Limit.{most_leaps}
 use Rattle.tz_types.specs.declared.fault.Fault.{Fault}
 use Rattle.tz_lines.specs.declared.error.ReadError.{ReadError}
 use Rattle.tz_lines.specs.declared.error.ReadError.TheVariants as errors
-use Rattle.tz_types.specs.declared.cause.Cause.{Cause}
-use Rattle.tz_types.specs.declared.cause.Cause.TheVariants as causes
-use Rattle.tz_specs.specs.Causes.{least_cause, unless_cause, fault_at}
-use Rattle.tz_lines.specs.LeapText.{leap_date, field_causes, exceeds_limit, line_says, is_among, unless_repeat}
-
--- the least cause, or else the date where there is no cause
-abbrev pub Says : List (Cause × Bool) → Option ℤ → Result ℤ Cause → Type 0
-Says rows date (Ok told) = (least_cause rows ≡ None) × (date ≡ Some told)
-Says rows date (Err cause) = least_cause rows ≡ Some cause
-
--- what the fields of a line say, by its number and by how many records stand before it
-abbrev pub fields_say : ℕ → ℕ → List (List ℕ) → Result (Option ℤ) Cause
-fields_say number earlier fields =
-    unless_cause (least_cause (field_causes fields ++ (causes.Limit, exceeds_limit number earlier fields) ∷ [])) (leap_date fields)
-
--- a record's number or place is above what there may be
-abbrev pub is_too_many : ℕ → ℕ → Bool
-is_too_many number earlier = nat_lt 100_000 number || nat_le most_leaps earlier
-
-abbrev pub unless_too_many : Bool → ℤ → Result (Option ℤ) Cause
-unless_too_many true date = Err causes.Limit
-unless_too_many false date = Ok (Some date)
+use Rattle.tz_specs.specs.Causes.{fault_at}
+use Rattle.tz_records.specs.LeapLine.{line_says}
+use Rattle.tz_lines.specs.LeapText.{is_among, unless_repeat}
 
 -- the place, among ascending dates, of the first that is later
 abbrev pub place_among : ℤ → List ℤ → ℕ

@@ -1,12 +1,6 @@
-pub mod FixedSave
 pub mod LineOutcome
-pub mod RuleFields
-pub mod LineFields
-pub mod Kind
-pub mod RulesField
-pub mod FormatField
-pub mod Entry
 pub mod NamePlace
+pub mod Continued
 pub mod Gathered
 pub mod Following
 pub mod Gathering
@@ -18,6 +12,5 @@ pub mod LineOrder
 pub mod Refusal
 pub mod Locate
 pub mod LeapText
-pub mod PlainDay
 pub mod LeapOutcome
 pub mod LeapRefusal

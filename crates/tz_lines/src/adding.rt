@@ -2,16 +2,16 @@
 ghost use Rattle.std.specs.Prelude.{◌≡◌, IsTrue, OnOk};
 ghost use Rattle.tz_specs.specs.Written.{written_rule, written_link, RuleRecord, ZoneRecord, Continuation, LinkRecord};
 ghost use Rattle.tz_specs.specs.Contents.{no_contents, with_record};
-ghost use Rattle.tz_lines.specs.Entry.{written_entry, written_entry_line};
+ghost use Rattle.tz_records.specs.Entry.{written_entry, written_entry_line};
 ghost use Rattle.tz_lines.specs.Gathered.{contents_gathered};
 ghost use Rattle.tz_lines.specs.Following.{may_follow};
 
 use crate::contents::Gathered;
-use crate::entry::{Entry, EntryLine};
 use crate::last_zone::{continue_last, zone_of};
 use crate::rule_sets::add_rule;
 use std::alloc::Global;
 use std::mem;
+use tz_records::{Entry, EntryLine};
 use tz_types::{Items, Label, NoMemory, Rule};
 
 impl Gathered {

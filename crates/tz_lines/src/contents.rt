@@ -1,9 +1,9 @@
 ghost use Rattle.std.specs.Prelude.{◌≡◌, ◌≤◌, ◌<◌, [], List, length, map, find, position, IsTrue, IfSome};
 ghost use Rattle.tz_types.specs.Order.{ascends, name_before};
 ghost use Rattle.tz_types.specs.Limit.{most_sets, most_zones, most_lines, most_links};
-ghost use Rattle.tz_lines.specs.Entry.{are_continued};
+ghost use Rattle.tz_lines.specs.Continued.{are_continued};
 
-use crate::entry::EntryLine;
+use tz_records::EntryLine;
 use tz_types::{Items, Label, Link, RuleSet};
 
 /// A zone, whose rule sets aren't looked up yet.

@@ -7,13 +7,13 @@ ghost use Rattle.tz_specs.specs.Causes.{fault_at};
 ghost use Rattle.tz_specs.specs.Written.{written_link};
 ghost use Rattle.tz_specs.specs.Whole.{missing_continuation};
 ghost use Rattle.tz_specs.specs.Unbuilt.{is_built, unbuilt_line};
-ghost use Rattle.tz_lines.specs.Entry.{written_entry_line};
+ghost use Rattle.tz_records.specs.Entry.{written_entry_line};
 ghost use Rattle.tz_lines.specs.Gathered.{written_entry_zone};
 ghost use Rattle.tz_lines.specs.Told.{told_with};
 
 use crate::contents::EntryZone;
-use crate::entry::{EntryLine, EntryRules};
 use crate::telling::Told;
+use tz_records::{EntryLine, EntryRules};
 use tz_types::{Cause, Format, Link};
 
 /// Whether the line is plain: no rules, and a format that stands for itself.

@@ -2,13 +2,13 @@
 ghost use Rattle.std.specs.Prelude.{◌≡◌, ◌∷◌, ◌++◌, [], ◌<◌, length, map, IsTrue, IfOk, OnOk};
 ghost use Rattle.tz_types.specs.Limit.{most_lines};
 ghost use Rattle.tz_specs.specs.Contents.{with_line, last_lines, wants_line};
-ghost use Rattle.tz_lines.specs.Entry.{written_entry_line};
+ghost use Rattle.tz_records.specs.Entry.{written_entry_line};
 ghost use Rattle.tz_lines.specs.Gathered.{written_entry_zone};
 ghost use Rattle.tz_lines.specs.declared.contents.EntryZone.{EntryZone as DeclaredZone};
 
 use crate::contents::EntryZone;
-use crate::entry::EntryLine;
 use std::alloc::Global;
+use tz_records::EntryLine;
 use tz_types::{Items, Label, NoMemory};
 
 /// A zone of one line.

@@ -3,14 +3,14 @@ ghost use Rattle.std.specs.Prelude.{◌≡◌, None, map, if◌then◌else◌};
 ghost use Rattle.std.specs.List.{flat_map};
 ghost use Rattle.tz_specs.specs.Expansion.{first_instant};
 ghost use Rattle.tz_specs.specs.Unbuilt.{is_built, plain_finish, late_plain_lines};
-ghost use Rattle.tz_lines.specs.Entry.{written_entry_line};
+ghost use Rattle.tz_records.specs.Entry.{written_entry_line};
 ghost use Rattle.tz_lines.specs.Gathered.{written_entry_zone};
 ghost use Rattle.tz_lines.specs.Told.{told_with};
 
 use crate::contents::EntryZone;
-use crate::entry::EntryLine;
 use crate::faults::is_built;
 use crate::telling::Told;
+use tz_records::EntryLine;
 use tz_rules::until_instant;
 use tz_types::{Cause, FIRST_INSTANT};
 

@@ -10,8 +10,8 @@ ghost use Rattle.tz_lines.specs.LeapRefusal.{MeansRefusal};
 use crate::ReadError;
 use crate::cutting::next_line;
 use crate::leap_gathered::Gathered;
-use crate::leap_line::read_line;
 use std::alloc::Global;
+use tz_records::read_leap_line;
 use tz_text::Joined;
 use tz_types::{Cause, Fault, Items, Leaps};
 
@@ -42,7 +42,7 @@ fn take_line(
     ensures err { IfErr result (λ e. (lines : List (List ℕ)) →
         Comes e (leap_outcome gathered.old.dates.items gathered.old.repeat gathered.old.count number (line.now ∷ lines))) }
 {
-    match read_line(line, joined, number, gathered.count) {
+    match read_leap_line(line, joined, number, gathered.count) {
         Ok(None) => Ok(()),
         Ok(Some(date)) => {
             gathered.add(number, date)?;

@@ -3,6 +3,9 @@
 //! `read_zones` reads a text whole, or refuses it; `locate` finds a zone by its name. So far a text is built
 //! that has no links, plain formats and no rules in the lines of its zones; any other is refused with cause 0, unless
 //! one of its lines has a cause. `read_leaps` reads a leap text whole, or refuses it with the line and the cause.
+//!
+//! Here stands what speaks of whole texts: their lines one after another, what these have given so far, and the faults
+//! that no single line has. What a line says by its fields is read in `tz_records`.
 #![tactic(auto)]
 
 mod adding;
@@ -10,34 +13,23 @@ mod building;
 mod contents;
 mod cutting;
 mod doubled;
-mod entry;
 mod error;
 mod faults;
-mod format_field;
 mod gathering;
-mod kind;
 mod last_zone;
 mod late;
 mod leap_gathered;
-mod leap_line;
 mod leap_reading;
-mod leap_values;
 mod least_fault;
 mod limits;
 mod line;
-mod link_line;
 mod locating;
 mod plain_zones;
 mod reading;
 mod record_line;
-mod recurrence;
-mod rule_line;
 mod rule_sets;
-mod rules_field;
 mod telling;
-mod values;
 mod version;
-mod zone_line;
 
 pub use error::ReadError;
 pub use leap_reading::read_leaps;

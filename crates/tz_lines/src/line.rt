@@ -2,15 +2,14 @@
 ghost use Rattle.std.specs.Prelude.{◌≡◌, ℕ, ◌<◌, ◌≤◌, List, Ok, Err, option_map, nat_lt, IfOk, IfErr, length};
 ghost use Rattle.tz_text.specs.Kept.{kept_of, most_kept};
 ghost use Rattle.tz_specs.specs.Contents.{field_causes, record_of_fields, line_says};
-ghost use Rattle.tz_lines.specs.Entry.{written_entry};
+ghost use Rattle.tz_records.specs.Entry.{written_entry};
 ghost use Rattle.tz_lines.specs.Gathered.{contents_gathered};
-ghost use Rattle.tz_lines.specs.LineOutcome.{Tells, fields_say, unless_late, Means};
+ghost use Rattle.tz_records.specs.Tells.{Tells, unless_late};
+ghost use Rattle.tz_lines.specs.LineOutcome.{fields_say, Means};
 
 use crate::contents::Gathered;
-use crate::entry::Entry;
-use crate::kind::Kind;
 use crate::record_line::record_entry;
-use crate::values::has_nul;
+use tz_records::{Entry, Kind, has_nul};
 use tz_text::{Fields, Joined};
 use tz_types::Cause;
 

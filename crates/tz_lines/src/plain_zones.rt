@@ -6,14 +6,14 @@ ghost use Rattle.tz_types.specs.Order.{ascends, name_before};
 ghost use Rattle.tz_types.specs.declared.zone.Zone.{Zone as DeclaredZone};
 ghost use Rattle.tz_specs.specs.Written.{WrittenZone, written_line, written_zone};
 ghost use Rattle.tz_specs.specs.Unbuilt.{is_built, is_plain, is_plain_zone};
-ghost use Rattle.tz_lines.specs.Entry.{written_entry_line};
+ghost use Rattle.tz_records.specs.Entry.{written_entry_line};
 ghost use Rattle.tz_lines.specs.Gathered.{written_entry_zone};
 ghost use Rattle.tz_lines.specs.declared.contents.EntryZone.{EntryZone as DeclaredEntryZone};
 ghost use Rattle.tz_lines.specs.PlainZone.{is_built_zone};
 
 use crate::contents::EntryZone;
-use crate::entry::EntryLine;
 use std::alloc::Global;
+use tz_records::EntryLine;
 use tz_types::{Items, LineRules, NoMemory, Zone, ZoneLine};
 
 /// A line that is built, as the database has it.

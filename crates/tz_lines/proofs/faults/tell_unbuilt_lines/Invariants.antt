@@ -1,7 +1,7 @@
 use Rattle.std.proofs.Common.{◌≡◌, map, drop}
 use Rattle.std.specs.List.{filter_map}
 use Rattle.tz_specs.specs.Unbuilt.{unbuilt_line}
-use Rattle.tz_lines.specs.Entry.{written_entry_line}
+use Rattle.tz_records.specs.Entry.{written_entry_line}
 use Rattle.tz_lines.specs.Told.{told_with}
 use Rattle.tz_lines.proofs.faults.tell_unbuilt_lines.Given as goal
 

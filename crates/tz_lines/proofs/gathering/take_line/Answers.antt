@@ -1,6 +1,6 @@
 use Rattle.std.proofs.Common.{◌≡◌, Ok, Some, None, sym, ap, ◌∙◌, ◌+◌}
 use Rattle.tz_specs.specs.Contents.{Contents, line_says, contents_after}
-use Rattle.tz_lines.specs.Entry.{written_entry}
+use Rattle.tz_records.specs.Entry.{written_entry}
 use Rattle.tz_lines.specs.Gathered.{contents_gathered}
 use Rattle.tz_lines.specs.Following.{are_before}
 use Rattle.tz_lines.proofs.Records.{follows, still_before}

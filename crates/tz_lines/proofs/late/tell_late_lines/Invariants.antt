@@ -1,7 +1,7 @@
 use Rattle.std.proofs.Common.{◌≡◌, map, drop}
 use Rattle.tz_specs.specs.Expansion.{first_instant}
 use Rattle.tz_specs.specs.Unbuilt.{late_plain_lines}
-use Rattle.tz_lines.specs.Entry.{written_entry_line}
+use Rattle.tz_records.specs.Entry.{written_entry_line}
 use Rattle.tz_lines.specs.Told.{told_with}
 use Rattle.tz_lines.proofs.late.tell_late_lines.Given as goal
 

@@ -4,7 +4,7 @@ use Rattle.std.proofs.lemmas.Iterator.Adapters.{YieldsList-from_vec}
 use Rattle.std.proofs.lemmas.Iterator.Consumers.{YieldsList-turn}
 use Rattle.tz_specs.specs.Written.{written_line}
 use Rattle.tz_specs.specs.Unbuilt.{is_built, is_plain}
-use Rattle.tz_lines.specs.Entry.{written_entry_line}
+use Rattle.tz_records.specs.Entry.{written_entry_line}
 use Rattle.tz_lines.proofs.BuiltLines.{all_at, all_pushed, map_pushed}
 use Rattle.tz_lines.proofs.plain_zones.plain_zone.Goals as goal
 

@@ -1,0 +1,9 @@
+pub mod KeptFields
+pub mod LeastCauses
+pub mod LineCauses
+pub mod KindLines
+pub mod Formats
+pub mod RuleLines
+pub mod ZoneLines
+pub mod PlainDays
+pub mod LeapLines

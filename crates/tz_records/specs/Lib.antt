@@ -1,0 +1,11 @@
+pub mod FixedSave
+pub mod Entry
+pub mod Kind
+pub mod Tells
+pub mod RulesField
+pub mod FormatField
+pub mod RuleFields
+pub mod LineFields
+pub mod PlainDay
+pub mod LeapLine
+pub mod LeapFields
