@@ -53,10 +53,20 @@ has_line zone = some_line zone.lines
     some_line [] = false
     some_line (line ∷ lines) = true
 
+-- all numbers lie below this one
+abbrev pub AllBelow : ℕ → List ℕ → Type 0
+AllBelow number [] = Unit {0}
+AllBelow number (x ∷ xs) = (x < number) × AllBelow number xs
+
+abbrev pub lines_at : List WrittenLine → List ℕ
+lines_at lines = map (λ line. line.line) lines
+
 pub record GoodZone (number : ℕ) (zone : WrittenZone) : Type 0 where
   pub lines : GoodLines zone.lines
   pub begun : IsTrue (has_line zone)
   pub before : begins zone < number
+  pub rise : IsTrue (ascends nat_lt (lines_at zone.lines))
+  pub below : AllBelow number (lines_at zone.lines)
 
 abbrev pub GoodZones : ℕ → List WrittenZone → Type 0
 GoodZones number [] = Unit {0}
@@ -91,9 +101,13 @@ later_sets : (number : ℕ) (sets : List WrittenSet) → GoodSets number sets �
 later_sets number [] h = tt
 later_sets number (set ∷ sets) h = (later_set number set h.0, later_sets number sets h.1)
 
+later_below : (number : ℕ) (xs : List ℕ) → AllBelow number xs → AllBelow (number + 1) xs
+later_below number [] h = tt
+later_below number (x ∷ xs) h = let before = h.0 in (omega (arith, before), later_below number xs h.1)
+
 later_zone : (number : ℕ) (zone : WrittenZone) → GoodZone number zone → GoodZone (number + 1) zone
 later_zone number zone h =
-    let before = h.before in record { lines = h.lines; begun = h.begun; before = omega (arith, before) }
+    let before = h.before in record { lines = h.lines; begun = h.begun; before = omega (arith, before); rise = h.rise; below = later_below number (lines_at zone.lines) h.below }
 
 later_zones : (number : ℕ) (zones : List WrittenZone) → GoodZones number zones → GoodZones (number + 1) zones
 later_zones number [] h = tt
@@ -118,10 +132,6 @@ later_contents number contents h =
     }
 
 -- numbers that rise, and one above all of them
-
-abbrev pub AllBelow : ℕ → List ℕ → Type 0
-AllBelow number [] = Unit {0}
-AllBelow number (x ∷ xs) = (x < number) × AllBelow number xs
 
 rise_after : (x : ℕ) (xs : List ℕ) (number : ℕ) → x < number → AllBelow number xs → IsTrue (ascends_after nat_lt x xs) → IsTrue (ascends_after nat_lt x (xs ++ number ∷ []))
 rise_after x [] number below all h = let is : IsTrue (nat_lt x number) = grind (arith, nat_tests, below) in rw is refl
@@ -275,7 +285,7 @@ zones_with number [] zone h good = (good, tt)
 zones_with number (first ∷ zones) zone h good = (later_zone number first h.0, zones_with number zones zone h.1 good)
 
 first_line : (number : ℕ) (name : List ℕ) (line : WrittenLine) → GoodLine line → line.line ≡ number → GoodZone (number + 1) (record { name = name; lines = line ∷ [] })
-first_line number name line good is = record { lines = (good, tt); begun = refl; before = omega (arith, is) }
+first_line number name line good is = record { lines = (good, tt); begun = refl; before = omega (arith, is); rise = refl; below = (omega (arith, is), tt) }
 
 begins_same : (lines : List WrittenLine) (line : WrittenLine) (name : List ℕ) → IsTrue (has_line (record { name = name; lines = lines })) → begins (record { name = name; lines = lines ++ line ∷ [] }) ≡ begins (record { name = name; lines = lines })
 begins_same [] line name h = absurd (cc)
@@ -285,16 +295,22 @@ still_line : (lines : List WrittenLine) (line : WrittenLine) (name : List ℕ) �
 still_line [] line name = refl
 still_line (first ∷ lines) line name = refl
 
-longer_zone : (number : ℕ) (zone : WrittenZone) (line : WrittenLine) → GoodZone number zone → GoodLine line → GoodZone (number + 1) (record { name = zone.name; lines = zone.lines ++ line ∷ [] })
-longer_zone number zone line h good =
+below_with : (number : ℕ) (xs : List ℕ) → AllBelow number xs → AllBelow (number + 1) (xs ++ number ∷ [])
+below_with number [] h = (omega arith, tt)
+below_with number (x ∷ xs) h = let before = h.0 in (omega (arith, before), below_with number xs h.1)
+
+longer_zone : (number : ℕ) (zone : WrittenZone) (line : WrittenLine) → GoodZone number zone → GoodLine line → line.line ≡ number → GoodZone (number + 1) (record { name = zone.name; lines = zone.lines ++ line ∷ [] })
+longer_zone number zone line h good is =
+    let places : lines_at (zone.lines ++ line ∷ []) ≡ lines_at zone.lines ++ number ∷ [] =
+    map_append (λ (it : WrittenLine). it.line) zone.lines (line ∷ []) ∙ ap (λ n. lines_at zone.lines ++ n ∷ []) is in
     let same = begins_same zone.lines line zone.name h.begun in
     let before = h.before in
-    record { lines = lines_with zone.lines line h.lines good; begun = still_line zone.lines line zone.name; before = omega (arith, same, before) }
+    record { lines = lines_with zone.lines line h.lines good; begun = still_line zone.lines line zone.name; before = omega (arith, same, before); rise = rw places (rise_on (lines_at zone.lines) number h.below h.rise); below = rw places (below_with number (lines_at zone.lines) h.below) }
 
-with_line_good : (number : ℕ) (zones : List WrittenZone) (line : WrittenLine) → GoodZones number zones → GoodLine line → GoodZones (number + 1) (with_line line zones)
-with_line_good number [] line h good = tt
-with_line_good number (zone ∷ []) line h good = (longer_zone number zone line h.0 good, tt)
-with_line_good number (zone ∷ next ∷ zones) line h good = (later_zone number zone h.0, with_line_good number (next ∷ zones) line h.1 good)
+with_line_good : (number : ℕ) (zones : List WrittenZone) (line : WrittenLine) → GoodZones number zones → GoodLine line → line.line ≡ number → GoodZones (number + 1) (with_line line zones)
+with_line_good number [] line h good is = tt
+with_line_good number (zone ∷ []) line h good is = (longer_zone number zone line h.0 good is, tt)
+with_line_good number (zone ∷ next ∷ zones) line h good is = (later_zone number zone h.0, with_line_good number (next ∷ zones) line h.1 good is)
 
 with_line_begins : (number : ℕ) (zones : List WrittenZone) (line : WrittenLine) → GoodZones number zones → map begins (with_line line zones) ≡ map begins zones
 with_line_begins number [] line h = refl
@@ -315,7 +331,7 @@ abbrev GoodRecord : ℕ → Contents → Record → Type 0
 GoodRecord number contents (RuleRecord name rule) =
     GoodRule rule × (rule.line ≡ number) × Room (length contents.sets) (find (is_set_named name) contents.sets)
 GoodRecord number contents (ZoneRecord name line) = GoodLine line × (line.line ≡ number) × (length contents.zones < most_zones)
-GoodRecord number contents (Continuation line) = GoodLine line
+GoodRecord number contents (Continuation line) = GoodLine line × (line.line ≡ number)
 GoodRecord number contents (LinkRecord link) = (link.line ≡ number) × (length contents.links < most_links)
 
 good_with : (number : ℕ) (contents : Contents) (entry : Record) → GoodContents number contents → GoodRecord number contents entry → GoodContents (number + 1) (with_record entry contents)
@@ -354,7 +370,7 @@ good_with number contents (Continuation line) h good =
       sets = later_sets number contents.sets h.sets;
       sets_ascend = h.sets_ascend;
       few_sets = h.few_sets;
-      zones = with_line_good number contents.zones line h.zones good;
+      zones = with_line_good number contents.zones line h.zones good.0 good.1;
       zones_rise = rw (with_line_begins number contents.zones line h.zones) h.zones_rise;
       few_zones = rw (with_line_count contents.zones line) h.few_zones;
       links = later_links number contents.links h.links;
@@ -456,7 +472,7 @@ kind_good number contents ContinuationLine fields entry few none is =
     let line = map_some Continuation (line_of number fields) entry is in
     let flags = line_flags false (exceeds_lines contents) fields none in
     let good = line_good number fields line.0 line.1 flags.0 in
-    subst (GoodRecord number contents) line.2 good.0
+    subst (GoodRecord number contents) line.2 (good.0, good.1)
 
 fields_good : (number : ℕ) (contents : Contents) (fields : List (List ℕ)) (entry : Record) → length contents.sets ≤ most_sets → least_cause (field_causes contents fields) ≡ None → record_of_fields contents number fields ≡ Some entry → GoodRecord number contents entry
 fields_good number contents [] entry few none is = absurd (cc)

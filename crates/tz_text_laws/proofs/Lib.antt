@@ -9,3 +9,4 @@ pub mod Making
 pub mod Sorting
 pub mod Zones
 pub mod Existing
+pub mod FaultsSoFar
