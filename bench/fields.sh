@@ -38,7 +38,7 @@ if ! make_text "$@"; then
     echo "bench: there is no text to measure" >&2
     exit 1
 fi
-"$top/bin/build" bench_fields data/sample || exit 1
+build_program bench_fields data/sample || exit 1
 
 bytes=$(($(wc -c <"$room/text")))
 # Megabytes in a second, where so many seconds were spent on all passes.
@@ -52,7 +52,7 @@ round=0
 while [ "$round" -lt "$rounds" ]; do
     round=$((round + 1))
     note start
-    repeat fields 1 "$top/crates/bench_fields/out/bench_fields" "$room/text" "$passes"
+    repeat fields 1 "$program" "$room/text" "$passes"
     repeat words "$passes" wc -w "$room/text"
     fields=$(spent start fields)
     words=$(spent fields words)

@@ -9,8 +9,7 @@
 leaps=${1:-$top/crates/bench_leaps/data/leaps}
 count=${COUNT:-20000000}
 
-"$top/bin/build" bench_leaps data/leaps utc 1000 || exit 1
-program=$top/crates/bench_leaps/out/bench_leaps
+build_program bench_leaps data/leaps utc 1000 || exit 1
 
 each() {
     ratio "$(awk -v spent="$1" 'BEGIN { print spent * 1000000000 }')" "$count"

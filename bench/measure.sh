@@ -3,6 +3,7 @@
 LC_ALL=C
 export LC_ALL
 top=$(CDPATH='' cd -- "$(dirname -- "$0")/.." && pwd -P) || exit 1
+. "$top/bin/build.sh"
 room=$(mktemp -d) || exit 1
 trap 'rm -rf "$room"' 0
 trap 'exit 1' 1 2 15
