@@ -4,4 +4,5 @@ pub mod Entries
 pub mod Files
 pub mod MemoryFiles
 pub mod MemorySink
+pub mod Messages
 pub mod Sink

@@ -17,6 +17,11 @@ pub enum FileError {
 }
 
 impl fmt::Display for FileError {
+    ghost use Rattle.std.specs.Prelude.{Some};
+    ghost use Rattle.tz_io.specs.Messages.{file_error_text};
+
+    ghost output = { λ error. Some (file_error_text error) };
+
     fn fmt<W: fmt::Write>(&self, f: &mut fmt::Formatter<W>) -> fmt::Result {
         f.write_str(match self {
             FileError::NoMemory => "memory ran out",

@@ -11,6 +11,10 @@ use std::fmt;
 pub struct Failed;
 
 impl fmt::Display for Failed {
+    ghost use Rattle.std.specs.Prelude.{Some, codes};
+
+    ghost output = { λ _. Some (codes "the write failed") };
+
     fn fmt<W: fmt::Write>(&self, f: &mut fmt::Formatter<W>) -> fmt::Result {
         f.write_str("the write failed")
     }
@@ -28,6 +32,11 @@ pub enum PutError {
 }
 
 impl fmt::Display for PutError {
+    ghost use Rattle.std.specs.Prelude.{Some};
+    ghost use Rattle.tz_io.specs.Messages.{put_error_text};
+
+    ghost output = { λ error. Some (put_error_text error) };
+
     fn fmt<W: fmt::Write>(&self, f: &mut fmt::Formatter<W>) -> fmt::Result {
         f.write_str(match self {
             PutError::Failed => "a write failed",

@@ -6,6 +6,10 @@ use std::fmt;
 pub struct OutOfRange;
 
 impl fmt::Display for OutOfRange {
+    ghost use Rattle.std.specs.Prelude.{Some, codes};
+
+    ghost output = { λ _. Some (codes "the time is out of range") };
+
     fn fmt<W: fmt::Write>(&self, f: &mut fmt::Formatter<W>) -> fmt::Result {
         f.write_str("the time is out of range")
     }

@@ -14,3 +14,4 @@ pub mod Locate
 pub mod LeapText
 pub mod LeapOutcome
 pub mod LeapRefusal
+pub mod Messages

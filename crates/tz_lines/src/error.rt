@@ -13,6 +13,11 @@ pub enum ReadError {
 }
 
 impl fmt::Display for ReadError {
+    ghost use Rattle.std.specs.Prelude.{Some};
+    ghost use Rattle.tz_lines.specs.Messages.{read_error_text};
+
+    ghost output = { λ error. Some (read_error_text error) };
+
     fn fmt<W: fmt::Write>(&self, f: &mut fmt::Formatter<W>) -> fmt::Result {
         match self {
             ReadError::NoMemory => f.write_str("memory ran out"),

@@ -25,6 +25,10 @@ use std::marker::Model;
 pub struct OpenQuote;
 
 impl fmt::Display for OpenQuote {
+    ghost use Rattle.std.specs.Prelude.{Some, codes};
+
+    ghost output = { λ _. Some (codes "a quoted piece of the line isn't closed") };
+
     fn fmt<W: fmt::Write>(&self, f: &mut fmt::Formatter<W>) -> fmt::Result {
         f.write_str("a quoted piece of the line isn't closed")
     }

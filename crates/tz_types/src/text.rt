@@ -12,6 +12,10 @@ use std::marker::Model;
 pub struct TextError;
 
 impl fmt::Display for TextError {
+    ghost use Rattle.std.specs.Prelude.{Some, codes};
+
+    ghost output = { λ _. Some (codes "not a printable text of this length") };
+
     fn fmt<W: fmt::Write>(&self, f: &mut fmt::Formatter<W>) -> fmt::Result {
         f.write_str("not a printable text of this length")
     }
