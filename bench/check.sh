@@ -38,12 +38,7 @@ compile() {
     rm -rf "$room/zones" && zic -d "$room/zones" "$1"
 }
 
-echo "processor time of $runs runs, as a ratio to that of $runs runs of wc, of zic, and of check on a megabyte"
-echo "round   check / wc, 1 MB   check / wc, 4 MB   check / zic, 4 MB   check 4 MB / 1 MB"
-round=0
-while [ "$round" -lt "$rounds" ]; do
-    round=$((round + 1))
-    note start
+measure_texts() {
     repeat wc_one "$runs" wc "$room/text_one"
     repeat wc_four "$runs" wc "$room/text_four"
     repeat one "$runs" "$program" check "$room/text_one"
@@ -57,4 +52,8 @@ while [ "$round" -lt "$rounds" ]; do
     four=$(spent one four)
     printf '%5d   %16s   %16s   %17s   %17s\n' "$round" "$(ratio "$one" "$(spent start wc_one)")" \
         "$(ratio "$four" "$(spent wc_one wc_four)")" "$zic" "$(ratio "$four" "$one")"
-done
+}
+
+echo "processor time of $runs runs, as a ratio to that of $runs runs of wc, of zic, and of check on a megabyte"
+echo "round   check / wc, 1 MB   check / wc, 4 MB   check / zic, 4 MB   check 4 MB / 1 MB"
+in_rounds measure_texts

@@ -46,15 +46,14 @@ speed() {
     ratio "$(awk -v bytes="$bytes" -v passes="$passes" 'BEGIN { print bytes * passes / 1000000 }')" "$1"
 }
 
-echo "$passes passes over $bytes bytes"
-echo "round   fields MB/s   wc -w MB/s   fields / wc -w"
-round=0
-while [ "$round" -lt "$rounds" ]; do
-    round=$((round + 1))
-    note start
+measure_fields() {
     repeat fields 1 "$program" "$room/text" "$passes"
     repeat words "$passes" wc -w "$room/text"
     fields=$(spent start fields)
     words=$(spent fields words)
     printf '%5d   %11s   %10s   %14s\n' "$round" "$(speed "$fields")" "$(speed "$words")" "$(ratio "$words" "$fields")"
-done
+}
+
+echo "$passes passes over $bytes bytes"
+echo "round   fields MB/s   wc -w MB/s   fields / wc -w"
+in_rounds measure_fields

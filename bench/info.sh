@@ -14,12 +14,7 @@ if ! "$top/bin/tzlist" info "$@" >"$room/answer"; then
     exit 1
 fi
 
-echo "processor time of $runs runs, as a ratio to that of $runs runs of wc -c"
-echo "round   bin/tzlist   program   wc -c again"
-round=0
-while [ "$round" -lt "$rounds" ]; do
-    round=$((round + 1))
-    note start
+measure_info() {
     repeat wc "$runs" wc -c "$1"
     repeat script "$runs" "$top/bin/tzlist" info "$@"
     repeat program "$runs" "$top/crates/tzlist/out/tzlist" info "$@"
@@ -27,4 +22,8 @@ while [ "$round" -lt "$rounds" ]; do
     yardstick=$(spent start wc)
     printf '%5d   %10s   %7s   %11s\n' "$round" "$(ratio "$(spent wc script)" "$yardstick")" \
         "$(ratio "$(spent script program)" "$yardstick")" "$(ratio "$(spent program again)" "$yardstick")"
-done
+}
+
+echo "processor time of $runs runs, as a ratio to that of $runs runs of wc -c"
+echo "round   bin/tzlist   program   wc -c again"
+in_rounds measure_info "$@"

@@ -15,12 +15,7 @@ each() {
     ratio "$(awk -v spent="$1" 'BEGIN { print spent * 1000000000 }')" "$count"
 }
 
-echo "$count instants a round, nanoseconds each"
-echo "round   utc_of_sys   sys_of_utc   search   utc_of_sys / search   sys_of_utc / search"
-round=0
-while [ "$round" -lt "$rounds" ]; do
-    round=$((round + 1))
-    note start
+measure_clocks() {
     repeat utc 1 "$program" "$leaps" utc "$count"
     repeat sys 1 "$program" "$leaps" sys "$count"
     repeat search 1 "$program" "$leaps" search "$count"
@@ -29,4 +24,8 @@ while [ "$round" -lt "$rounds" ]; do
     search=$(spent sys search)
     printf '%5d   %10s   %10s   %6s   %19s   %19s\n' "$round" "$(each "$utc")" "$(each "$sys")" "$(each "$search")" \
         "$(ratio "$utc" "$search")" "$(ratio "$sys" "$search")"
-done
+}
+
+echo "$count instants a round, nanoseconds each"
+echo "round   utc_of_sys   sys_of_utc   search   utc_of_sys / search   sys_of_utc / search"
+in_rounds measure_clocks

@@ -52,3 +52,13 @@ repeat() {
     done
     note "$name"
 }
+
+# Runs a command once a round, with a note named start before it and the number of the round in `round`.
+in_rounds() {
+    round=0
+    while [ "$round" -lt "$rounds" ]; do
+        round=$((round + 1))
+        note start
+        "$@"
+    done
+}
