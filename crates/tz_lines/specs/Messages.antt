@@ -1,7 +1,6 @@
 -- What `{}` prints of an error.
 use Rattle.std.specs.Prelude.{ℕ, List, ◌++◌, codes}
 use Rattle.std.specs.Fmt.{decimal}
-use Rattle.tz_types.specs.declared.fault.Fault.{Fault}
 use Rattle.tz_lines.specs.declared.error.ReadError.{ReadError}
 use Rattle.tz_lines.specs.declared.error.ReadError.TheVariants.{NoMemory, Fault as faulty}
 
