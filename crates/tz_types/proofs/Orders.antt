@@ -1,5 +1,5 @@
 -- Lists that stand in order, by each two neighbours.
-use Rattle.std.proofs.Common.{◌≡◌, ℕ, zero, suc, ◌+◌, ◌<◌, Bool, true, false, ◌&&◌, refl, sym, arith, List, [], ◌∷◌, length, get_or}
+use Rattle.std.proofs.Common.{◌≡◌, ℕ, zero, suc, ◌+◌, ◌<◌, Bool, true, false, ◌&&◌, refl, sym, ap, arith, List, [], ◌∷◌, length, map, get_or}
 use Rattle.std.specs.List.{IsAllAdjacentAnswer, AllAdjacentBelow}
 use Rattle.tz_types.specs.Order.{ascends, ascends_after}
 
@@ -33,3 +33,12 @@ ascends_by_neighbours before (x ∷ xs) true answer = sym (after_all before x xs
 ascends_by_neighbours before [] false answer = absurd (omega (arith, answer.1))
 ascends_by_neighbours before (x ∷ xs) false answer =
     sym (after_one before x xs answer.0 (omega (arith, answer.1)) (λ d. let next : answer.0 + 1 ≡ suc answer.0 = omega arith in rw next at (answer.2 d)))
+
+-- keys stand in order where their elements do by their keys
+after_keys : {A B : Type 0} (before : B → B → Bool) (key : A → B) (x : A) (xs : List A) → ascends_after (λ a b. before (key a) (key b)) x xs ≡ ascends_after before (key x) (map key xs)
+after_keys before key x [] = refl
+after_keys before key x (y ∷ ys) = ap (λ (rest : Bool). before (key x) (key y) && rest) (after_keys before key y ys)
+
+pub ascends_by_keys : {A B : Type 0} (before : B → B → Bool) (key : A → B) (xs : List A) → ascends (λ a b. before (key a) (key b)) xs ≡ ascends before (map key xs)
+ascends_by_keys before key [] = refl
+ascends_by_keys before key (x ∷ xs) = after_keys before key x xs

@@ -29,3 +29,5 @@ cause_number causes.DuplicateName = 21
 cause_number causes.LinkTarget = 22
 cause_number causes.UntilOrder = 23
 cause_number causes.LeapRepeat = 24
+cause_number causes.ExpiresTwice = 25
+cause_number causes.ExpiresEarly = 26

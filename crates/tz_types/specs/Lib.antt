@@ -7,3 +7,4 @@ pub mod Saves
 pub mod Order
 pub mod Limit
 pub mod Cause
+pub mod Leap

@@ -21,6 +21,6 @@ most_lines = 255
 abbrev pub most_links : ℕ
 most_links = 4_096
 
--- the leap dates of a leap text
+-- the leap seconds of a leap text
 abbrev pub most_leaps : ℕ
 most_leaps = 1_024

@@ -36,7 +36,7 @@ pub enum Cause {
     Format,
     /// A format or letters have too many bytes.
     LongAbbrev,
-    /// A leap second isn't inserted.
+    /// A leap second is neither added nor skipped.
     Corr,
     /// A leap second isn't told in universal time.
     Rolling,
@@ -54,6 +54,10 @@ pub enum Cause {
     UntilOrder,
     /// An earlier leap second has the date.
     LeapRepeat,
+    /// An earlier line says when the table expires.
+    ExpiresTwice,
+    /// The table expires no later than a leap second.
+    ExpiresEarly,
 }
 
 impl Cause {
@@ -87,6 +91,8 @@ impl Cause {
             Cause::LinkTarget => 22,
             Cause::UntilOrder => 23,
             Cause::LeapRepeat => 24,
+            Cause::ExpiresTwice => 25,
+            Cause::ExpiresEarly => 26,
         }
     }
 }

@@ -1,4 +1,4 @@
-//! The types that every other crate speaks of: texts, days, rules, zones, links, leap dates and ranges.
+//! The types that every other crate speaks of: texts, days, rules, zones, links, leap seconds and ranges.
 //!
 //! Each type keeps its ranges and orders itself, so that the layers above need no tests of their own.
 //! Years are proleptic Gregorian, instants and amounts are whole seconds from 1970-01-01 00:00:00.
@@ -12,7 +12,9 @@ mod database;
 mod fault;
 mod format;
 mod instant;
-mod leap_dates;
+mod leap_entry;
+mod leap_info;
+mod leaps;
 mod link;
 mod list;
 mod memory;
@@ -33,7 +35,9 @@ pub use database::Db;
 pub use fault::Fault;
 pub use format::Format;
 pub use instant::{END_OF_TIME, FIRST_INSTANT};
-pub use leap_dates::Leaps;
+pub use leap_entry::LeapEntry;
+pub use leap_info::LeapInfo;
+pub use leaps::{Leaps, MOST_LEAPS};
 pub use link::Link;
 pub use list::Items;
 pub use memory::NoMemory;
