@@ -22,3 +22,5 @@ pub mod TextLemmas
 pub mod AscendingLemmas
 pub mod SameDatabase
 pub mod SoFarLemmas
+pub mod FaultOrder
+pub mod LeapTextLemmas

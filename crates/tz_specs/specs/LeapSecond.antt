@@ -1,52 +1,80 @@
 -- Leap seconds, and the clocks of UTC, TAI and GPS, after ISO C++20 [time.clock.utc], [time.clock.utc.members],
--- [time.clock.tai] and [time.clock.gps]. A leap date is the instant of the midnight that follows an inserted second.
--- A UTC count is the number of seconds since 1970-01-01 00:00:00, the inserted ones among them.
-use Rattle.std.specs.Prelude.{◌≡◌, Bool, false, if◌then◌else◌, ◌⊎◌, List, [], ◌∷◌, length, Contains, int_lt, int_le, ℤ, pos, ◌+ℤ◌, ◌-ℤ◌, ◌≤ℤ◌, ◌<ℤ◌}
+-- [time.clock.tai] and [time.clock.gps]. The date of an entry is the instant of the midnight that follows a second which is
+-- added to the UTC count, or at which one is skipped. A UTC count is the number of seconds since 1970-01-01 00:00:00, with
+-- the added ones and without the skipped ones.
+use Rattle.std.specs.Prelude.{◌≡◌, Bool, true, false, ◌&&◌, if◌then◌else◌, ◌⊎◌, List, Contains, int_lt, int_le, ℤ, pos, ◌+ℤ◌, ◌-ℤ◌, ◌≤ℤ◌, ◌<ℤ◌, Option, Some, None, IsTrue}
 use Rattle.std.specs.Ordering.{int_eq}
 use Rattle.std.specs.List.{list_any}
+use Rattle.tz_types.specs.Leap.{sum_where}
+use Rattle.tz_types.specs.declared.leap_entry.LeapEntry.{LeapEntry}
+use Rattle.tz_types.specs.declared.leaps.Leaps.{Leaps}
+use Rattle.tz_types.specs.declared.leap_info.LeapInfo.{LeapInfo}
 use Rattle.tz_specs.specs.Expansion.{first_instant, end_of_time}
 
--- the seconds that the leap dates which pass a test put into the UTC count: each puts in one
-abbrev pub leap_seconds : (ℤ → Bool) → List ℤ → ℤ
-leap_seconds passes [] = pos 0
-leap_seconds passes (date ∷ dates) =
-    (if passes date then pos 1 else pos 0) +ℤ leap_seconds passes dates
+-- how many seconds all entries add
+abbrev pub all_seconds : List LeapEntry → ℤ
+all_seconds entries = sum_where (λ entry. true) entries
 
--- the UTC count of a system time: it, and the seconds that the leap dates at or before it put in
-abbrev pub utc_count : List ℤ → ℤ → ℤ
-utc_count dates t = t +ℤ leap_seconds (λ date. int_le date t) dates
+-- how many seconds the entries before a date add
+abbrev pub sum_before : List LeapEntry → ℤ → ℤ
+sum_before entries date = sum_where (λ entry. int_lt entry.date date) entries
 
--- the UTC count of the second that is inserted right before a leap date
-abbrev pub inserted_second : List ℤ → ℤ → ℤ
-inserted_second dates date = date +ℤ leap_seconds (λ other. int_lt other date) dates
+-- the UTC count of a system time: it, and what the entries at or before it add
+abbrev pub utc_count : List LeapEntry → ℤ → ℤ
+utc_count entries t = t +ℤ sum_where (λ entry. int_le entry.date t) entries
 
--- how many inserted seconds lie at or before a UTC count, itself among them
-abbrev pub elapsed_by : List ℤ → ℤ → ℤ
-elapsed_by dates u = leap_seconds (λ date. int_le (inserted_second dates date) u) dates
+-- the UTC count of the second that is added right before a date
+abbrev pub inserted_second : List LeapEntry → ℤ → ℤ
+inserted_second entries date = date +ℤ sum_before entries date
 
--- the UTC count is the inserted second of one of the leap dates
-abbrev pub is_inserted : List ℤ → ℤ → Bool
-is_inserted dates u = list_any (λ date. int_eq (inserted_second dates date) u) dates
+-- an added second counts from itself on, and a skipped one from the UTC count of its date on
+abbrev pub counts_at : List LeapEntry → ℤ → LeapEntry → Bool
+counts_at entries u entry =
+    int_le (if entry.added then inserted_second entries entry.date else utc_count entries entry.date) u
 
--- u is the inserted second of a leap date, and t the last system time before that date
-pub record IsHeldBack (dates : List ℤ) (u t : ℤ) : Type 0 where
-  pub date : ℤ
-  pub is_date : Contains dates date
-  pub inserted : u ≡ inserted_second dates date
-  pub last_before : t ≡ date -ℤ pos 1
+-- how many seconds were added up to a UTC count, itself among them, less those that were skipped
+abbrev pub elapsed_by : List LeapEntry → ℤ → ℤ
+elapsed_by entries u = sum_where (counts_at entries u) entries
 
--- u is no inserted second, and it is the UTC count of t
-pub record IsCounted (dates : List ℤ) (u t : ℤ) : Type 0 where
-  pub not_inserted : is_inserted dates u ≡ false
-  pub count : utc_count dates t ≡ u
+-- the UTC count is an added second
+abbrev pub is_inserted : List LeapEntry → ℤ → Bool
+is_inserted entries u =
+    list_any (λ entry. entry.added && int_eq (inserted_second entries entry.date) u) entries
+
+-- u is the added second of an entry, and t the last system time before its date
+pub record IsHeldBack (entries : List LeapEntry) (u t : ℤ) : Type 0 where
+  pub entry : LeapEntry
+  pub is_entry : Contains entries entry
+  pub is_added : IsTrue entry.added
+  pub inserted : u ≡ inserted_second entries entry.date
+  pub last_before : t ≡ entry.date -ℤ pos 1
+
+-- u is no added second, and t the greatest system time of which it is the UTC count
+pub record IsCounted (entries : List LeapEntry) (u t : ℤ) : Type 0 where
+  pub not_inserted : is_inserted entries u ≡ false
+  pub count : utc_count entries t ≡ u
+  pub greatest : (other : ℤ) → utc_count entries other ≡ u → other ≤ℤ t
 
 -- t is the system time of the UTC count u
-abbrev pub IsSystemTime : List ℤ → ℤ → ℤ → Type 0
-IsSystemTime dates u t = IsHeldBack dates u t ⊎ IsCounted dates u t
+abbrev pub IsSystemTime : List LeapEntry → ℤ → ℤ → Type 0
+IsSystemTime entries u t = IsHeldBack entries u t ⊎ IsCounted entries u t
 
--- a UTC count in range: time ends as many seconds later as there are leap dates
-abbrev pub IsUtcCount : List ℤ → ℤ → Type 0
-IsUtcCount dates u = (first_instant ≤ℤ u) × (u <ℤ (end_of_time +ℤ pos (length dates)))
+-- a UTC count in range: time ends as many seconds later as all entries add
+abbrev pub IsUtcCount : List LeapEntry → ℤ → Type 0
+IsUtcCount entries u = (first_instant ≤ℤ u) × (u <ℤ (end_of_time +ℤ all_seconds entries))
+
+-- the table expires, and the system time isn't before that moment
+abbrev pub is_past : Option ℤ → ℤ → Bool
+is_past None t = false
+is_past (Some moment) t = int_le moment t
+
+-- what there is to know of the UTC count u
+pub record IsLeapInfo (leaps : Leaps) (u : ℤ) (info : LeapInfo) : Type 0 where
+  pub is_leap : info.is_leap ≡ is_inserted leaps.entries u
+  pub elapsed : info.elapsed ≡ elapsed_by leaps.entries u
+  pub time : ℤ
+  pub is_time : IsSystemTime leaps.entries u time
+  pub expired : info.expired ≡ is_past leaps.expires time
 
 -- TAI counts from 1958-01-01 00:00:00 on, and was 10 seconds ahead of UTC in 1972: 4,383 days and those 10 seconds
 abbrev pub tai_ahead : ℤ

@@ -27,3 +27,5 @@ pub mod Whole
 pub mod Reads
 pub mod Unbuilt
 pub mod LeapSecond
+pub mod LeapLine
+pub mod LeapText

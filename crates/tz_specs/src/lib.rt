@@ -8,6 +8,7 @@ mod effect_laws;
 mod expansion_laws;
 mod field;
 mod leap_laws;
+mod leap_text_laws;
 mod local_laws;
 mod occurrence_laws;
 mod range_laws;
@@ -31,8 +32,14 @@ pub use effect_laws::{
 pub use expansion_laws::{line_without_rules_is_one_range, time_runs_from_midnight_to_midnight};
 pub use field::{at_most_one_list, no_list_where_open, one_reading};
 pub use leap_laws::{
-    clocks_keep_their_ranges, only_inserted_seconds_are_left_out, tai_and_gps_keep_their_distance,
-    utc_count_gives_its_system_time, utc_counts_have_one_system_time, utc_counts_rise,
+    clocks_keep_their_ranges, only_inserted_seconds_are_left_out,
+    shared_counts_go_to_the_last_time, tai_and_gps_keep_their_distance,
+    utc_counts_are_system_time_and_what_elapsed, utc_counts_have_one_system_time,
+    utc_counts_never_fall, utc_counts_rise_where_none_is_skipped,
+};
+pub use leap_text_laws::{
+    at_most_one_leap_fault, at_most_one_leap_table, each_leap_text_is_read_or_refused,
+    read_leap_texts_are_not_refused,
 };
 pub use local_laws::{local_times_are_told, local_times_mean_what_they_say};
 pub use occurrence_laws::{
