@@ -152,7 +152,7 @@ clear_at zero (first ∷ rows) row h e =
     ap (λ (it : Cause × Bool). it.1) (sym same) ∙ first_clear first rows h
 clear_at (suc place) (first ∷ rows) row h e = clear_at place rows row (rest_clear first rows h) e
 
-nothing_said : {A : Type 0} (cause : Option Cause) (said told : A) → unless_cause cause said ≡ Ok told → (cause ≡ None) × (said ≡ told)
+pub nothing_said : {A : Type 0} (cause : Option Cause) (said told : A) → unless_cause cause said ≡ Ok told → (cause ≡ None) × (said ≡ told)
 nothing_said None said told h = (refl, cc)
 nothing_said (Some cause) said told h = cc
 
@@ -162,7 +162,7 @@ entry_room earlier fields h =
     let room : nat_le most_leaps earlier ≡ false = clear_at 6 (entry_causes earlier fields) (causes.Limit, nat_le most_leaps earlier) h refl in
     grind (arith, nat_tests)
 
-no_expiry : (entry : LeapEntry) (moment : Option ℤ) → option_map ExpiryRecord moment ≡ Some (SecondRecord entry) → ⊥
+pub no_expiry : (entry : LeapEntry) (moment : Option ℤ) → option_map ExpiryRecord moment ≡ Some (SecondRecord entry) → ⊥
 no_expiry entry None h = cc
 no_expiry entry (Some moment) h = cc
 

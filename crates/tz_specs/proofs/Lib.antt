@@ -24,3 +24,4 @@ pub mod SameDatabase
 pub mod SoFarLemmas
 pub mod FaultOrder
 pub mod LeapTextLemmas
+pub mod LeapDates

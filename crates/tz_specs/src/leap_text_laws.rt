@@ -1,7 +1,8 @@
 //! A leap text is read as one table, or refused with one fault, and not both.
-ghost use Rattle.std.specs.Prelude.{◌≡◌, ◌⊎◌, ℕ, List};
+ghost use Rattle.std.specs.Prelude.{◌≡◌, ◌⊎◌, ℕ, List, All, ◌<ℤ◌};
 ghost use Rattle.tz_types.specs.declared.fault.Fault.{Fault};
 ghost use Rattle.tz_types.specs.declared.leaps.Leaps.{Leaps};
+ghost use Rattle.tz_specs.specs.Expansion.{first_instant, end_of_time};
 ghost use Rattle.tz_specs.specs.LeapText.{ReadsLeaps, RefusesLeaps};
 
 /// Each leap text is read as a table, or refused with a fault.
@@ -22,4 +23,9 @@ pub fn at_most_one_leap_fault()
 /// A leap text that is read isn't refused.
 pub fn read_leap_texts_are_not_refused()
     ensures { (text : List ℕ) (leaps : Leaps) (fault : Fault) → ReadsLeaps text leaps → ¬ (RefusesLeaps text fault) }
+{}
+
+/// The dates of a table that is read lie in time, so that its clocks keep to their ranges.
+pub fn leap_texts_give_dates_in_time()
+    ensures { (text : List ℕ) (leaps : Leaps) → ReadsLeaps text leaps → All (λ entry. (first_instant <ℤ entry.date) × (entry.date <ℤ end_of_time)) leaps.entries }
 {}

@@ -39,7 +39,7 @@ pub use leap_laws::{
 };
 pub use leap_text_laws::{
     at_most_one_leap_fault, at_most_one_leap_table, each_leap_text_is_read_or_refused,
-    read_leap_texts_are_not_refused,
+    leap_texts_give_dates_in_time, read_leap_texts_are_not_refused,
 };
 pub use local_laws::{local_times_are_told, local_times_mean_what_they_say};
 pub use occurrence_laws::{
