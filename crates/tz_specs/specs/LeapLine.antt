@@ -91,13 +91,19 @@ entry_of fields = do
   added ← correction_of (field_at 5 fields)
   Some (record { date = pos 86_400 *ℤ (day +ℤ pos 1); added = added })
 
--- the causes of a leap second, before which so many stand
-unfoldable pub entry_causes : ℕ → List (List ℕ) → List (Cause × Bool)
-entry_causes earlier fields =
+-- the causes of a record's day; without a year or a month there is no day either
+abbrev pub day_causes : List (List ℕ) → List (Cause × Bool)
+day_causes fields =
     (causes.Year, is_none (rule_year_of (field_at 1 fields)))
     ∷ (causes.Month, is_none (month_named (field_at 2 fields)))
     ∷ (causes.Day, is_none (leap_day fields))
-    ∷ (causes.Time, not (is_leap_time (correction_of (field_at 5 fields)) (field_at 4 fields)))
+    ∷ []
+
+-- the causes of a leap second, before which so many stand
+unfoldable pub entry_causes : ℕ → List (List ℕ) → List (Cause × Bool)
+entry_causes earlier fields =
+    day_causes fields
+    ++ (causes.Time, not (is_leap_time (correction_of (field_at 5 fields)) (field_at 4 fields)))
     ∷ (causes.Corr, is_none (correction_of (field_at 5 fields)))
     ∷ (causes.Rolling, not (is_stationary (field_at 6 fields)))
     ∷ (causes.Limit, nat_le most_leaps earlier)
@@ -127,12 +133,7 @@ moment_of fields = do
   Some (pos 86_400 *ℤ day +ℤ pos second)
 
 unfoldable pub expiry_causes : List (List ℕ) → List (Cause × Bool)
-expiry_causes fields =
-    (causes.Year, is_none (rule_year_of (field_at 1 fields)))
-    ∷ (causes.Month, is_none (month_named (field_at 2 fields)))
-    ∷ (causes.Day, is_none (leap_day fields))
-    ∷ (causes.Time, is_none (second_of_day (field_at 4 fields)))
-    ∷ []
+expiry_causes fields = day_causes fields ++ (causes.Time, is_none (second_of_day (field_at 4 fields))) ∷ []
 
 -- the record of fields of a kind, and its causes
 

@@ -4,5 +4,6 @@ pub mod Sizes
 pub mod Suffixes
 pub mod Prefixes
 pub mod Bounds
+pub mod SecondOfDay
 pub mod Steps
 pub mod Spans

@@ -11,6 +11,7 @@ mod day;
 mod digits;
 mod duration;
 mod output;
+mod second;
 mod table;
 
 pub use clock::amount;
@@ -19,6 +20,7 @@ pub use day::on;
 pub use digits::{signed_number, year};
 pub use duration::Amount;
 pub use output::put_number;
+pub use second::second_of_day;
 pub use table::named;
 
 #[cfg(test)]
