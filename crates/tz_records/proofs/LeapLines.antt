@@ -1,103 +1,135 @@
 -- What a line of a leap text says, by its fields.
-use Rattle.std.proofs.Common.{◌≡◌, ◌≢◌, ℕ, ◌+◌, ◌<◌, ◌≤◌, Bool, true, false, nat_lt, nat_eq, ◌==◌, List, [], ◌∷◌, ◌++◌, length, ℤ, Option, Some, None, is_some, option_map, Result, Ok, Err, refl, sym, ap, ◌∙◌, arith}
+use Rattle.std.proofs.Common.{◌≡◌, ◌≢◌, ℕ, ◌+◌, ◌<◌, ◌≤◌, Bool, true, false, not, nat_lt, nat_le, nat_eq, ◌==◌, ◌||◌, if◌then◌else◌, List, [], ◌∷◌, ◌++◌, length, ℤ, pos, ◌+ℤ◌, ◌*ℤ◌, Option, Some, None, is_some, option_map, Result, Ok, Err, IfOk, IfErr, refl, sym, ap, ◌∙◌, arith}
+use Rattle.std.specs.Option.{is_none}
 use Rattle.std.specs.List.{list_any}
-use Rattle.std.proofs.lemmas.Bool.Decides.{nat_tests}
+use Rattle.std.proofs.lemmas.Bool.{eqb-true}
 use Rattle.tz_types.specs.declared.cause.Cause.{Cause}
 use Rattle.tz_types.specs.declared.cause.Cause.TheVariants as causes
-use Rattle.tz_text.specs.Kept.{Kept, kept_of}
+use Rattle.tz_types.specs.declared.leap_entry.LeapEntry.{LeapEntry}
+use Rattle.tz_text.specs.Kept.{Kept, kept_of, most_kept}
 use Rattle.tz_specs.specs.Field.{fields_of}
-use Rattle.tz_specs.specs.Number.{number_of, signed_number_of}
-use Rattle.tz_specs.specs.Word.{named_entry}
-use Rattle.tz_specs.specs.Causes.{least_cause}
+use Rattle.tz_specs.specs.Choice.{◌>>=◌}
+use Rattle.tz_specs.specs.Causes.{least_cause, unless_cause}
 use Rattle.tz_specs.specs.Value.{field_at}
-use Rattle.tz_records.specs.Tells.{unless_late}
-use Rattle.tz_records.specs.LeapLine.{leap_keyword, leap_date, value_causes, field_causes, exceeds_limit, line_says}
-use Rattle.tz_records.specs.LeapFields.{Says, fields_say, is_too_many}
+use Rattle.tz_specs.specs.LeapLine.{LeapKind, SecondLine, ExpiryLine, leap_kind_of, has_leap_count, leap_day, correction_of, is_leap_time, is_stationary, day_causes, entry_of, entry_causes, second_of_day, moment_of, expiry_causes, leap_record_of, leap_record_causes, leap_kind_causes, leap_field_causes, leap_record_of_fields, leap_line_says}
+use Rattle.tz_specs.specs.LeapLine as specs
+use Rattle.tz_records.specs.declared.leap_record.LeapRecord.{LeapRecord}
+use Rattle.tz_records.specs.Tells.{Tells, unless_late}
+use Rattle.tz_records.specs.LeapRecord.{record_meant, leap_fields_say, Means}
 use Rattle.tz_records.proofs.KeptFields.{count_kept, none_kept, first_field, all_kept}
-use Rattle.tz_records.proofs.LeastCauses.{least_before, least_after, same_tells, late_or_said}
+use Rattle.tz_records.proofs.LeastCauses.{least_before, least_after, same_tells}
 use Rattle.tz_records.proofs.LineCauses as lines
 
-no_date : leap_date [] ≡ None
-unfolding leap_date signed_number_of number_of
-no_date = refl
+-- ---- records by their kind
 
--- a blank line
-pub blank_late : (number earlier : ℕ) → 100_000 < number → Err causes.Limit ≡ fields_say number earlier []
-unfolding field_causes
-blank_late number earlier h =
-    let late : nat_lt 100_000 number ≡ true = grind (arith, nat_tests) in
-    rw late refl
+-- the causes of a record whose day is wrong
+pub day_of_entry : (earlier : ℕ) (fields : List (List ℕ)) (cause : Cause) → least_cause (day_causes fields) ≡ Some cause → least_cause (entry_causes earlier fields) ≡ Some cause
+unfolding entry_causes
+day_of_entry earlier fields cause h =
+    least_before (day_causes fields) ((causes.Time, not (is_leap_time (correction_of (field_at 5 fields)) (field_at 4 fields))) ∷ (causes.Corr, is_none (correction_of (field_at 5 fields))) ∷ (causes.Rolling, not (is_stationary (field_at 6 fields))) ∷ (causes.Limit, nat_le 1_024 earlier) ∷ []) cause h
 
-pub blank_said : (number earlier : ℕ) → number ≤ 100_000 → Ok None ≡ fields_say number earlier []
-unfolding field_causes
-blank_said number earlier h =
-    let early : nat_lt 100_000 number ≡ false = grind (arith, nat_tests) in
-    rw (early, no_date) refl
+pub day_of_expiry : (fields : List (List ℕ)) (cause : Cause) → least_cause (day_causes fields) ≡ Some cause → least_cause (expiry_causes fields) ≡ Some cause
+unfolding expiry_causes
+day_of_expiry fields cause h =
+    least_before (day_causes fields) ((causes.Time, is_none (second_of_day (field_at 4 fields))) ∷ []) cause h
 
-pub refused_fields : (all : List (List ℕ)) (number earlier : ℕ) (cause : Cause) → least_cause (field_causes all) ≡ Some cause → Err cause ≡ fields_say number earlier all
-refused_fields all number earlier cause h =
-    rw (least_before (field_causes all) ((causes.Limit, exceeds_limit number earlier all) ∷ []) cause h) refl
+-- the tests behind the day
+pub entry_tests : (earlier : ℕ) (fields : List (List ℕ)) (time stationary : Bool) (correction : Option Bool) → least_cause (day_causes fields) ≡ None → correction ≡ correction_of (field_at 5 fields) → time ≡ is_leap_time correction (field_at 4 fields) → stationary ≡ is_stationary (field_at 6 fields) → least_cause (entry_causes earlier fields) ≡ (if not time then Some causes.Time else (if is_none correction then Some causes.Corr else (if not stationary then Some causes.Rolling else (if nat_le 1_024 earlier then Some causes.Limit else None))))
+unfolding entry_causes
+entry_tests earlier fields time stationary correction none corr timed still =
+    rw (corr, timed, corr, still) (least_after (day_causes fields) ((causes.Time, not (is_leap_time (correction_of (field_at 5 fields)) (field_at 4 fields))) ∷ (causes.Corr, is_none (correction_of (field_at 5 fields))) ∷ (causes.Rolling, not (is_stationary (field_at 6 fields))) ∷ (causes.Limit, nat_le 1_024 earlier) ∷ []) none)
 
-record_limit : (all : List (List ℕ)) (kept : Kept) (number earlier : ℕ) → kept_of all ≡ kept → 0 < kept.count → exceeds_limit number earlier all ≡ is_too_many number earlier
-record_limit [] kept number earlier e some = none_kept kept e some
-record_limit (field ∷ fields) kept number earlier e some = refl
+pub expiry_tests : (fields : List (List ℕ)) (second : Option ℕ) → least_cause (day_causes fields) ≡ None → second ≡ second_of_day (field_at 4 fields) → least_cause (expiry_causes fields) ≡ (if is_none second then Some causes.Time else None)
+unfolding expiry_causes
+expiry_tests fields second none is =
+    rw is (least_after (day_causes fields) ((causes.Time, is_none (second_of_day (field_at 4 fields))) ∷ []) none)
 
-pub dated_fields : (all : List (List ℕ)) (kept : Kept) (number earlier : ℕ) (told : ℤ) → kept_of all ≡ kept → 0 < kept.count → Says (field_causes all) (leap_date all) (Ok told) → unless_late (is_too_many number earlier) (Some told) ≡ fields_say number earlier all
-dated_fields all kept number earlier told e some says =
-    rw (least_after (field_causes all) ((causes.Limit, exceeds_limit number earlier all) ∷ []) says.0, record_limit all kept number earlier e some, says.1) (late_or_said (is_too_many number earlier) (Some told))
+pub entry_said : (fields : List (List ℕ)) (day : ℤ) (added : Bool) → leap_day fields ≡ Some day → correction_of (field_at 5 fields) ≡ Some added → entry_of fields ≡ Some (record { date = pos 86_400 *ℤ (day +ℤ pos 1); added = added })
+unfolding entry_of
+entry_said fields day added e f = rw (e, f) refl
 
--- the keyword by what is kept
-is_keyword : (all : List (List ℕ)) (kept : Kept) (named : Bool) → kept_of all ≡ kept → named ≡ is_some (named_entry (field_at 0 kept.first) leap_keyword) → is_some (named_entry (field_at 0 all) leap_keyword) ≡ named
-is_keyword all kept named e is =
-    ap (λ (it : List ℕ). is_some (named_entry it leap_keyword)) (first_field all kept e) ∙ sym is
+pub moment_said : (fields : List (List ℕ)) (day : ℤ) (second : ℕ) → leap_day fields ≡ Some day → second_of_day (field_at 4 fields) ≡ Some second → moment_of fields ≡ Some (pos 86_400 *ℤ day +ℤ pos second)
+unfolding moment_of
+moment_said fields day second e f = rw (e, f) refl
 
--- a record whose first field isn't the keyword
-pub keyword_missing : (all : List (List ℕ)) (kept : Kept) (named : Bool) → kept_of all ≡ kept → 0 < kept.count → named ≡ is_some (named_entry (field_at 0 kept.first) leap_keyword) → named ≡ false → least_cause (field_causes all) ≡ Some causes.Keyword
-unfolding field_causes
-keyword_missing [] kept named e some is wrong = none_kept kept e some
-keyword_missing (keyword ∷ fields) kept named e some is wrong =
-    rw (is_keyword (keyword ∷ fields) kept named e is, wrong) refl
+-- ---- the kind of a record
 
--- a record that hasn't seven fields
-pub other_count : (all : List (List ℕ)) (kept : Kept) (named : Bool) → kept_of all ≡ kept → 0 < kept.count → named ≡ is_some (named_entry (field_at 0 kept.first) leap_keyword) → named ≡ true → kept.count ≢ 7 → least_cause (field_causes all) ≡ Some causes.FieldCount
-unfolding field_causes
-other_count [] kept named e some is right other = none_kept kept e some
-other_count (keyword ∷ fields) kept named e some is right other =
+few_counted : (kind : LeapKind) (count : ℕ) → has_leap_count kind count ≡ true → count ≤ most_kept
+few_counted SecondLine count h = let is = eqb-true count 7 h in omega arith
+few_counted ExpiryLine count h = let is = eqb-true count 5 h in omega arith
+
+kind_kept : (all : List (List ℕ)) (kept : Kept) (kind : Option LeapKind) → kept_of all ≡ kept → leap_kind_of (field_at 0 kept.first) ≡ kind → leap_kind_of (field_at 0 all) ≡ kind
+kind_kept all kept kind e is = ap leap_kind_of (first_field all kept e) ∙ is
+
+-- a first field that names no keyword
+pub no_kind : (earlier : ℕ) (all : List (List ℕ)) (kept : Kept) → kept_of all ≡ kept → 0 < kept.count → leap_kind_of (field_at 0 kept.first) ≡ None → least_cause (leap_field_causes earlier all) ≡ Some causes.Keyword
+unfolding leap_field_causes
+no_kind earlier [] kept e some none = none_kept kept e some
+no_kind earlier (keyword ∷ fields) kept e some none = rw (kind_kept (keyword ∷ fields) kept None e none) refl
+
+-- fewer or more fields than the record has
+pub other_count : (earlier : ℕ) (all : List (List ℕ)) (kept : Kept) (kind : LeapKind) → kept_of all ≡ kept → 0 < kept.count → leap_kind_of (field_at 0 kept.first) ≡ Some kind → has_leap_count kind kept.count ≡ false → least_cause (leap_field_causes earlier all) ≡ Some causes.FieldCount
+unfolding leap_field_causes
+other_count earlier [] kept kind e some is other = none_kept kept e some
+other_count earlier (keyword ∷ fields) kept kind e some is other =
+    rw (kind_kept (keyword ∷ fields) kept (Some kind) e is, count_kept (keyword ∷ fields) kept e, other) refl
+
+-- a record that has its fields
+pub counted_fields : (earlier : ℕ) (all : List (List ℕ)) (kept : Kept) (kind : LeapKind) (told : Result LeapRecord Cause) → kept_of all ≡ kept → 0 < kept.count → leap_kind_of (field_at 0 kept.first) ≡ Some kind → has_leap_count kind kept.count ≡ true → Tells record_meant (leap_record_causes earlier kind kept.first) (leap_record_of kind kept.first) told → Tells record_meant (leap_field_causes earlier all) (leap_record_of_fields all) told
+unfolding leap_field_causes leap_record_of_fields
+counted_fields earlier [] kept kind told e some is counted tells = none_kept kept e some
+counted_fields earlier (keyword ∷ fields) kept kind told e some is counted tells =
     let count = count_kept (keyword ∷ fields) kept e in
-    let not_seven : nat_eq (length (keyword ∷ fields)) 7 ≡ false = grind (arith, nat_tests) in
-    rw (is_keyword (keyword ∷ fields) kept named e is, right, not_seven) refl
+    let here = kind_kept (keyword ∷ fields) kept (Some kind) e is in
+    let whole : kept.first ≡ keyword ∷ fields = all_kept (keyword ∷ fields) kept e (few_counted kind kept.count counted) in
+    same_tells record_meant (leap_record_causes earlier kind (keyword ∷ fields)) (leap_field_causes earlier (keyword ∷ fields)) (leap_record_of kind (keyword ∷ fields)) (leap_record_of_fields (keyword ∷ fields)) told (rw (here, count, counted) refl) (rw here refl) (rw whole at tells)
 
-values_first : (all : List (List ℕ)) (kept : Kept) (named : Bool) → kept_of all ≡ kept → named ≡ is_some (named_entry (field_at 0 kept.first) leap_keyword) → named ≡ true → kept.count ≡ 7 → least_cause (field_causes all) ≡ least_cause (value_causes all)
-unfolding field_causes
-values_first [] kept named e is right seven = none_kept kept e (omega arith)
-values_first (keyword ∷ fields) kept named e is right seven =
-    let count = count_kept (keyword ∷ fields) kept e in
-    let all_seven : nat_eq (length (keyword ∷ fields)) 7 ≡ true = grind (arith, nat_tests) in
-    rw (is_keyword (keyword ∷ fields) kept named e is, right, all_seven) refl
+-- ---- the fields of a line
 
--- a record of seven fields says what its values say
-pub seven_fields : (all : List (List ℕ)) (kept : Kept) (named : Bool) (told : Result ℤ Cause) → kept_of all ≡ kept → named ≡ is_some (named_entry (field_at 0 kept.first) leap_keyword) → named ≡ true → kept.count ≡ 7 → Says (value_causes kept.first) (leap_date kept.first) told → Says (field_causes all) (leap_date all) told
-seven_fields all kept named told e is right seven says =
-    same_tells (λ date. date) (value_causes all) (field_causes all) (leap_date all) (leap_date all) told (values_first all kept named e is right seven) refl (rw (all_kept all kept e (omega arith)) at says)
+late_means : (late : Bool) (told : Option LeapRecord) → Means (unless_late late told) (unless_cause (least_cause ((causes.Limit, late) ∷ [])) (option_map record_meant told))
+late_means true told = refl
+late_means false told = refl
+
+pub blank_fields : (number earlier : ℕ) → Means (unless_late (nat_lt 100_000 number) None) (leap_fields_say number earlier [])
+unfolding leap_field_causes leap_record_of_fields
+blank_fields number earlier = late_means (nat_lt 100_000 number) None
+
+pub told_fields : (number earlier : ℕ) (all : List (List ℕ)) (told : LeapRecord) → Tells record_meant (leap_field_causes earlier all) (leap_record_of_fields all) (Ok told) → Means (unless_late (nat_lt 100_000 number) (Some told)) (leap_fields_say number earlier all)
+told_fields number earlier all told tells =
+    rw (least_after (leap_field_causes earlier all) ((causes.Limit, nat_lt 100_000 number) ∷ []) tells.0, tells.1) (late_means (nat_lt 100_000 number) (Some told))
+
+pub refused_fields : (number earlier : ℕ) (all : List (List ℕ)) (cause : Cause) → least_cause (leap_field_causes earlier all) ≡ Some cause → leap_fields_say number earlier all ≡ Err cause
+refused_fields number earlier all cause h =
+    rw (least_before (leap_field_causes earlier all) ((causes.Limit, nat_lt 100_000 number) ∷ []) cause h) refl
+
+-- ---- the line
 
 -- the causes of the fields of a line, with that of its place
 abbrev rows_at : ℕ → ℕ → List (List ℕ) → List (Cause × Bool)
-rows_at number earlier fields = field_causes fields ++ (causes.Limit, exceeds_limit number earlier fields) ∷ []
+rows_at number earlier fields = leap_field_causes earlier fields ++ (causes.Limit, nat_lt 100_000 number) ∷ []
 
-pub long_line : (number earlier : ℕ) (line : List ℕ) → 2_048 < length line + 1 → Err causes.LongLine ≡ line_says number earlier line
-unfolding line_says
-long_line number earlier line long = sym (lines.long_line (rows_at number earlier) leap_date line long)
+pub long_line : (number earlier : ℕ) (line : List ℕ) → 2_048 < length line + 1 → leap_line_says number earlier line ≡ Err causes.LongLine
+unfolding leap_line_says
+long_line number earlier line long = lines.long_line (rows_at number earlier) leap_record_of_fields line long
 
-pub nul_line : (number earlier : ℕ) (line : List ℕ) → length line + 1 ≤ 2_048 → list_any (λ byte. byte == 0) line ≡ true → Err causes.Nul ≡ line_says number earlier line
-unfolding line_says
-nul_line number earlier line short nul = sym (lines.nul_line (rows_at number earlier) leap_date line short nul)
+pub nul_line : (number earlier : ℕ) (line : List ℕ) → length line + 1 ≤ 2_048 → list_any (λ byte. byte == 0) line ≡ true → leap_line_says number earlier line ≡ Err causes.Nul
+unfolding leap_line_says
+nul_line number earlier line short nul = lines.nul_line (rows_at number earlier) leap_record_of_fields line short nul
 
-pub open_line : (number earlier : ℕ) (line : List ℕ) → length line + 1 ≤ 2_048 → list_any (λ byte. byte == 0) line ≡ false → fields_of line ≡ None → Err causes.OpenQuote ≡ line_says number earlier line
-unfolding line_says
-open_line number earlier line short nul e =
-    sym (lines.open_line (rows_at number earlier) leap_date line short nul e)
+pub open_line : (number earlier : ℕ) (line : List ℕ) → length line + 1 ≤ 2_048 → list_any (λ byte. byte == 0) line ≡ false → fields_of line ≡ None → leap_line_says number earlier line ≡ Err causes.OpenQuote
+unfolding leap_line_says
+open_line number earlier line short nul e = lines.open_line (rows_at number earlier) leap_record_of_fields line short nul e
 
-pub whole_line : (number earlier : ℕ) (line : List ℕ) (kept : Kept) (told : Result (Option ℤ) Cause) → length line + 1 ≤ 2_048 → list_any (λ byte. byte == 0) line ≡ false → option_map kept_of (fields_of line) ≡ Some kept → ((all : List (List ℕ)) → kept_of all ≡ kept → told ≡ fields_say number earlier all) → told ≡ line_says number earlier line
-unfolding line_says
+pub whole_line : (number earlier : ℕ) (line : List ℕ) (kept : Kept) (told : Result (Option LeapRecord) Cause) → length line + 1 ≤ 2_048 → list_any (λ byte. byte == 0) line ≡ false → option_map kept_of (fields_of line) ≡ Some kept → ((all : List (List ℕ)) → kept_of all ≡ kept → Means told (leap_fields_say number earlier all)) → Means told (leap_line_says number earlier line)
+unfolding leap_line_says
 whole_line number earlier line kept told short nul e says =
-    lines.whole_line (rows_at number earlier) leap_date (λ outcome. told ≡ outcome) line kept short nul e says
+    lines.whole_line (rows_at number earlier) leap_record_of_fields (Means told) line kept short nul e says
+
+-- the two sides of what is meant
+pub means_ok : (told : Result (Option LeapRecord) Cause) (outcome : Result (Option specs.LeapRecord) Cause) → Means told outcome → IfOk told (λ said. outcome ≡ Ok (option_map record_meant said))
+means_ok (Ok said) outcome means = means
+means_ok (Err cause) outcome means = tt
+
+pub means_err : (told : Result (Option LeapRecord) Cause) (outcome : Result (Option specs.LeapRecord) Cause) → Means told outcome → IfErr told (λ cause. outcome ≡ Err cause)
+means_err (Ok said) outcome means = tt
+means_err (Err cause) outcome means = means

@@ -7,5 +7,4 @@ pub mod FormatField
 pub mod RuleFields
 pub mod LineFields
 pub mod PlainDay
-pub mod LeapLine
-pub mod LeapFields
+pub mod LeapRecord

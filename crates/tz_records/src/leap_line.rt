@@ -1,22 +1,24 @@
-ghost use Rattle.std.specs.Prelude.{◌≡◌, ℕ, ◌<◌, [], List, Some, is_some, IsSome, IsNone, IsOk, IfOk};
-ghost use Rattle.tz_types.specs.Limit.{most_leaps};
-ghost use Rattle.tz_specs.specs.Word.{named_entry};
+//! One line of a leap text, after zic(8), "Leap lines": `Leap YEAR MONTH DAY 23:59:60 + S`, `Leap YEAR MONTH DAY 23:59:59 - S`
+//! or `Expires YEAR MONTH DAY HH:MM:SS`. Dates and moments are in seconds from 1970-01-01 00:00:00.
+ghost use Rattle.std.specs.Prelude.{◌≡◌, ℕ, ◌<◌, ◌≤◌, neg_ℤ, pos, List, Ok, Err, true, nat_lt, option_map, IfOk, IfErr};
+ghost use Rattle.jiff_core.specs.Calendar.{IsBetween};
+ghost use Rattle.tz_specs.specs.LeapLine.{day_causes, leap_day, entry_of, entry_causes, moment_of, expiry_causes, leap_record_of, leap_record_causes, leap_field_causes, leap_record_of_fields, leap_line_says, has_leap_count};
 ghost use Rattle.tz_text.specs.Kept.{kept_of};
-ghost use Rattle.tz_specs.specs.Value.{is_exactly};
-ghost use Rattle.tz_records.specs.Tells.{unless_late};
-ghost use Rattle.tz_records.specs.LeapLine.{leap_keyword, value_causes, field_causes, leap_date, line_says};
-ghost use Rattle.tz_records.specs.LeapFields.{Says, fields_say, is_too_many};
+ghost use Rattle.tz_records.specs.Tells.{Tells, unless_late};
+ghost use Rattle.tz_records.specs.LeapRecord.{kind_meant, record_meant, leap_fields_say, Means};
 
-use crate::leap_values::{is_stationary, leap_day, midnight_after};
-use crate::values::{has_nul, is_exactly, month, rule_year};
-use tz_text::{Fields, Joined, named};
-use tz_types::Cause;
+use crate::leap_record::{LeapKind, LeapRecord};
+use crate::leap_values::{correction, is_leap_time, is_stationary, leap_day};
+use crate::values::{has_nul, month, rule_year};
+use tz_text::{Fields, Joined, second_of_day};
+use tz_types::{Cause, LeapEntry, MOST_LEAPS, On, day_of};
 
-/// The leap date of a record of seven fields, or the least cause of its values.
-#[tactic(auto, unfolding(crate::specs::LeapLine::value_causes, crate::specs::LeapLine::leap_date))]
-fn date_of_values(fields: &Fields<'_>) -> Result<i64, Cause>
-    requires { fields.now.count ≡ 7 }
-    ensures { Says (value_causes fields.now.first) (leap_date fields.now.first) result }
+/// The day of a record, from 1970-01-01, or the least cause of the fields that say it.
+#[tactic(auto, unfolding(tz_specs::specs::LeapLine::leap_day, tz_types::specs::Calendar::day_number))]
+fn day(fields: &Fields<'_>) -> Result<i64, Cause>
+    requires { 4 ≤ fields.now.count }
+    ensures told { Tells (λ day. day) (day_causes fields.now.first) (leap_day fields.now.first) result }
+    ensures bound { IfOk result (IsBetween (neg_ℤ (pos 4_371_228)) (pos 2_932_567)) }
 {
     let Some(year) = rule_year(fields.get(1)) else {
         return Err(Cause::Year);
@@ -27,94 +29,117 @@ fn date_of_values(fields: &Fields<'_>) -> Result<i64, Cause>
     let Some(day) = leap_day(year, month, fields.get(3)) else {
         return Err(Cause::Day);
     };
-    if !is_exactly(fields.get(4), b"23:59:60") {
+    Ok(day_of(year, month, On::Day(day)))
+}
+
+/// The leap second of a record of seven fields, before which `earlier` stand, or the least cause of its values.
+fn entry(fields: &Fields<'_>, earlier: usize) -> Result<LeapEntry, Cause>
+    requires { fields.now.count ≡ 7 }
+    ensures { Tells (λ entry. entry) (entry_causes earlier fields.now.first) (entry_of fields.now.first) result }
+{
+    let day = match day(fields) {
+        Ok(day) => day,
+        Err(cause) => return Err(cause),
+    };
+    let correction = correction(fields.get(5));
+    if !is_leap_time(correction, fields.get(4)) {
         return Err(Cause::Time);
     }
-    if !is_exactly(fields.get(5), b"+") {
+    let Some(added) = correction else {
         return Err(Cause::Corr);
-    }
+    };
     if !is_stationary(fields.get(6)) {
         return Err(Cause::Rolling);
     }
-    Ok(midnight_after(year, month, day))
-}
-
-/// Whether the word names the keyword of records.
-fn is_keyword(word: &[u8]) -> bool
-    ensures { result ≡ is_some (named_entry word.now leap_keyword) }
-{
-    named(word, b"Leap").is_some()
-}
-
-/// The leap date of a record, or the least cause of its fields.
-#[tactic(auto, using(crate::proofs::LeapLines::keyword_missing, crate::proofs::LeapLines::other_count, crate::proofs::LeapLines::seven_fields))]
-fn date_of_record(fields: &Fields<'_>) -> Result<i64, Cause>
-    requires { 0 < fields.now.count }
-    ensures { (all : List (List ℕ)) → kept_of all ≡ fields.now → Says (field_causes all) (leap_date all) result }
-{
-    if !is_keyword(fields.get(0)) {
-        return Err(Cause::Keyword);
-    }
-    if fields.count() != 7 {
-        return Err(Cause::FieldCount);
-    }
-    date_of_values(fields)
-}
-
-/// Whether no more records may come: the line's number is above 100,000, or 1,024 records stand before it.
-fn is_too_many(number: u32, earlier: u32) -> bool
-    ensures { result ≡ is_too_many number earlier }
-{
-    number > 100_000 || earlier >= 1_024
-}
-
-/// The date of a record, unless that is one too many.
-fn unless_too_many(date: i64, number: u32, earlier: u32) -> Result<Option<i64>, Cause>
-    ensures value { result ≡ unless_late (is_too_many number earlier) (Some date) }
-    ensures few { IsOk result → earlier < most_leaps }
-{
-    if is_too_many(number, earlier) {
+    if earlier >= MOST_LEAPS {
         return Err(Cause::Limit);
     }
-    Ok(Some(date))
+    Ok(LeapEntry {
+        date: 86_400 * (day + 1),
+        added,
+    })
 }
 
-/// What a line without fields says.
-#[tactic(auto, using(crate::proofs::LeapLines::blank_late, crate::proofs::LeapLines::blank_said))]
-fn blank_line(number: u32) -> Result<Option<i64>, Cause>
-    ensures value { (earlier : ℕ) → result ≡ fields_say number earlier [] }
-    ensures none { IfOk result IsNone }
+/// The moment of a record of five fields, or the least cause of its values.
+fn moment(fields: &Fields<'_>) -> Result<i64, Cause>
+    requires { fields.now.count ≡ 5 }
+    ensures { Tells (λ moment. moment) (expiry_causes fields.now.first) (moment_of fields.now.first) result }
+{
+    let day = match day(fields) {
+        Ok(day) => day,
+        Err(cause) => return Err(cause),
+    };
+    let Some(second) = second_of_day(fields.get(4)) else {
+        return Err(Cause::Time);
+    };
+    Ok(86_400 * day + second as i64)
+}
+
+/// The record of a kind, or the least cause of its values.
+fn record_of_kind(kind: LeapKind, fields: &Fields<'_>, earlier: usize) -> Result<LeapRecord, Cause>
+    requires { has_leap_count (kind_meant kind) fields.now.count ≡ true }
+    ensures { Tells record_meant (leap_record_causes earlier (kind_meant kind) fields.now.first) (leap_record_of (kind_meant kind) fields.now.first) result }
+{
+    match kind {
+        LeapKind::Second => match entry(fields, earlier) {
+            Ok(entry) => Ok(LeapRecord::Second(entry)),
+            Err(cause) => Err(cause),
+        },
+        LeapKind::Expiry => match moment(fields) {
+            Ok(moment) => Ok(LeapRecord::Expiry(moment)),
+            Err(cause) => Err(cause),
+        },
+    }
+}
+
+/// What the fields of a line say that isn't blank, or their least cause.
+#[tactic(auto, using(crate::proofs::LeapLines::no_kind, crate::proofs::LeapLines::other_count, crate::proofs::LeapLines::counted_fields))]
+fn record(fields: &Fields<'_>, earlier: usize) -> Result<LeapRecord, Cause>
+    requires { 0 < fields.now.count }
+    ensures { (all : List (List ℕ)) → kept_of all ≡ fields.now → Tells record_meant (leap_field_causes earlier all) (leap_record_of_fields all) result }
+{
+    let Some(kind) = LeapKind::named(fields.get(0)) else {
+        return Err(Cause::Keyword);
+    };
+    if !kind.has_count(fields.count()) {
+        return Err(Cause::FieldCount);
+    }
+    record_of_kind(kind, fields, earlier)
+}
+
+/// What is said by a line that isn't one too many.
+fn unless_late(told: Option<LeapRecord>, number: u32) -> Result<Option<LeapRecord>, Cause>
+    ensures { result ≡ unless_late (nat_lt 100_000 number) told }
 {
     if number > 100_000 {
         return Err(Cause::Limit);
     }
-    Ok(None)
+    Ok(told)
 }
 
-/// What the fields of a line say.
-fn date_of_fields(fields: &Fields<'_>, number: u32, earlier: u32) -> Result<Option<i64>, Cause>
-    ensures value { (all : List (List ℕ)) → kept_of all ≡ fields.now → result ≡ fields_say number earlier all }
-    ensures few { IfOk result (λ date. IsSome date → earlier < most_leaps) }
+/// What the fields of a line say: a record, nothing where there are none, or their least cause.
+fn said(fields: &Fields<'_>, number: u32, earlier: usize) -> Result<Option<LeapRecord>, Cause>
+    ensures { (all : List (List ℕ)) → kept_of all ≡ fields.now → Means result (leap_fields_say number earlier all) }
 {
     if fields.count() == 0 {
-        return blank_line(number);
+        return unless_late(None, number);
     }
-    match date_of_record(fields) {
-        Ok(date) => unless_too_many(date, number, earlier),
+    match record(fields, earlier) {
+        Ok(told) => unless_late(Some(told), number),
         Err(cause) => Err(cause),
     }
 }
 
-/// The leap date that a line of a leap text says, none where the line is blank, or its least cause. `number` is the
-/// line's, from 1, and `earlier` says how many records stand before it.
+/// What a line of a leap text says: a record, nothing where it is blank, or its least cause. `number` is the line's, from 1,
+/// and `earlier` says how many leap seconds stand before it.
 pub fn read_leap_line(
     line: &[u8],
     joined: &mut Joined,
     number: u32,
-    earlier: u32,
-) -> Result<Option<i64>, Cause>
-    ensures value { result ≡ line_says number earlier line.now }
-    ensures few { IfOk result (λ date. IsSome date → earlier < most_leaps) }
+    earlier: usize,
+) -> Result<Option<LeapRecord>, Cause>
+    ensures ok { IfOk result (λ said. leap_line_says number earlier line.now ≡ Ok (option_map record_meant said)) }
+    ensures err { IfErr result (λ cause. leap_line_says number earlier line.now ≡ Err cause) }
 {
     if line.len() + 1 > 2_048 {
         return Err(Cause::LongLine);
@@ -125,5 +150,5 @@ pub fn read_leap_line(
     let Ok(fields) = Fields::cut(line, joined) else {
         return Err(Cause::OpenQuote);
     };
-    date_of_fields(&fields, number, earlier)
+    said(&fields, number, earlier)
 }

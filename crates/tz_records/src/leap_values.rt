@@ -1,4 +1,5 @@
-ghost use Rattle.std.specs.Prelude.{◌≡◌, ◌==◌, nat_eq, IsTrue, IfSome, codes};
+//! The values of single fields of leap texts.
+ghost use Rattle.std.specs.Prelude.{◌≡◌, ◌==◌, nat_eq, IsTrue, IfSome, codes, if◌then◌else◌};
 ghost use Rattle.std.specs.List.{list_any};
 ghost use Rattle.tz_types.specs.Year.{IsRuleYear};
 ghost use Rattle.tz_types.specs.Calendar.{has_day};
@@ -6,10 +7,11 @@ ghost use Rattle.tz_types.specs.declared.calendar.On.TheVariants.{Day};
 ghost use Rattle.tz_specs.specs.Day.{day_number_of};
 ghost use Rattle.tz_records.specs.PlainDay.{number_alone};
 ghost use Rattle.tz_specs.specs.Value.{rule_year_of, month_named};
-ghost use Rattle.tz_records.specs.LeapLine.{leap_day_of, midnight_after, is_stationary};
+ghost use Rattle.tz_specs.specs.LeapLine.{leap_day_of, correction_of, leap_time, is_leap_time, is_stationary};
 
+use crate::values::is_exactly;
 use tz_text::{named, on};
-use tz_types::{Month, On, day_of, has_day};
+use tz_types::{Month, On, has_day};
 
 const KINDS: &[u8] = b"Stationary Rolling";
 
@@ -45,14 +47,34 @@ pub fn leap_day(year: i32, month: Month, field: &[u8]) -> Option<u8>
     }
 }
 
-/// The midnight that follows the day, in seconds from 1970-01-01 00:00:00.
-#[tactic(auto, unfolding(tz_types::specs::Calendar::day_number))]
-pub fn midnight_after(year: i32, month: Month, day: u8) -> i64
-    requires year_in { IsRuleYear year }
-    requires day_in { IsTrue (has_day year month (Day day)) }
-    ensures { result ≡ midnight_after year month day }
+/// Whether a second is added, and not skipped.
+pub fn correction(field: &[u8]) -> Option<bool>
+    ensures { result ≡ correction_of field.now }
 {
-    86_400 * (day_of(year, month, On::Day(day)) + 1)
+    if is_exactly(field, b"+") {
+        return Some(true);
+    }
+    if is_exactly(field, b"-") {
+        return Some(false);
+    }
+    None
+}
+
+/// The second that is added, or the one that is skipped.
+fn leap_time(added: bool) -> &'static [u8]
+    ensures { result.now ≡ leap_time added }
+{
+    if added { b"23:59:60" } else { b"23:59:59" }
+}
+
+/// Whether the time goes with the correction, or with either where there is none.
+pub fn is_leap_time(correction: Option<bool>, field: &[u8]) -> bool
+    ensures { result ≡ is_leap_time correction field.now }
+{
+    match correction {
+        None => is_exactly(field, leap_time(true)) || is_exactly(field, leap_time(false)),
+        Some(added) => is_exactly(field, leap_time(added)),
+    }
 }
 
 /// Whether the word names the kind of seconds that stand still, in universal time.

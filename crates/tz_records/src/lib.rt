@@ -2,14 +2,15 @@
 //!
 //! The layer above reads texts whole, and keeps what lines have given so far. It asks what kind of record a line's fields
 //! are, and has the record read as an entry, or gets the least of its causes. Whether a record would be one too many it
-//! says itself. A line of a leap text is read from its bytes. Records of zone texts are defined in `tz_specs`, and lines
-//! of leap texts here. Nothing here allocates.
+//! says itself. A line of a leap text is read from its bytes. Records of both kinds of text are
+//! defined in `tz_specs`. Nothing here allocates.
 #![tactic(auto)]
 
 mod entry;
 mod format_field;
 mod kind;
 mod leap_line;
+mod leap_record;
 mod leap_values;
 mod link_line;
 mod recurrence;
@@ -22,6 +23,7 @@ mod zone_record;
 pub use entry::{Entry, EntryLine, EntryRules};
 pub use kind::Kind;
 pub use leap_line::read_leap_line;
+pub use leap_record::LeapRecord;
 pub use link_line::link_entry;
 pub use rule_line::rule_entry;
 pub use values::has_nul;
