@@ -25,7 +25,7 @@ use Rattle.tz_specs.specs.Causes.{least_cause, unless_cause}
 use Rattle.tz_specs.specs.Contents.{fields_or_none}
 use Rattle.tz_specs.specs.Whole.{IsLeast}
 use Rattle.tz_specs.specs.LeapLine.{LeapRecord, SecondRecord, ExpiryRecord, LeapKind, SecondLine, ExpiryLine, leap_kind_of, entry_of, moment_of, entry_causes, leap_record_of, leap_kind_causes, leap_field_causes, leap_line_causes, leap_record_of_fields, leap_line_says}
-use Rattle.tz_specs.specs.LeapText.{WrittenLeap, LeapContents, no_leap_contents, with_leap_record, leap_fault, leap_contents_after, leap_contents_of, leap_fault_where, repeated_leap, repeated_expiry, early_expiry, leap_faults, first_moment, ReadsLeaps, RefusesWholeLeaps, RefusesLeaps}
+use Rattle.tz_specs.specs.LeapText.{WrittenLeap, WrittenExpiry, LeapContents, no_leap_contents, with_leap_record, leap_fault, leap_contents_after, leap_contents_of, leap_fault_where, repeated_leap, repeated_expiry, early_expiry, leap_faults, first_moment, ReadsLeaps, RefusesWholeLeaps, RefusesLeaps}
 use Rattle.tz_specs.proofs.AscendingLemmas.{both_hold, first_or_later, is_first, is_later, never_in_none}
 use Rattle.tz_specs.proofs.TextLemmas.{least_is_one, none_is_least}
 use Rattle.tz_specs.proofs.SoFarLemmas.{none_first}
@@ -184,34 +184,46 @@ leap_room number earlier line entry h =
     let fields_clear = clear_after 3 (leap_line_causes number earlier line) said.0 in
     fields_room earlier (fields_or_none (fields_of line)) entry said.1 (front_clear (leap_field_causes earlier (fields_or_none (fields_of line))) ((causes.Limit, nat_lt 100_000 number) ∷ []) fields_clear)
 
--- ---- the lines of leap seconds rise, and there are few of them
+-- ---- the lines of leap seconds rise, and those of expiries, and there are few leap seconds
 
-abbrev pub LinesRise : ℕ → List WrittenLeap → ℕ → Type 0
-LinesRise low [] next = low ≤ next
-LinesRise low (leap ∷ leaps) next = (low ≤ leap.line) × LinesRise (leap.line + 1) leaps next
+abbrev pub LinesRise : {X : Type 0} → (X → ℕ) → ℕ → List X → ℕ → Type 0
+LinesRise line low [] next = low ≤ next
+LinesRise line low (x ∷ xs) next = (low ≤ line x) × LinesRise line (line x + 1) xs next
+
+abbrev pub leap_line : WrittenLeap → ℕ
+leap_line leap = leap.line
+
+abbrev pub expiry_line : WrittenExpiry → ℕ
+expiry_line expiry = expiry.line
 
 pub record GoodLeaps (contents : LeapContents) (next : ℕ) : Type 0 where
-  pub rise : LinesRise 0 contents.leaps next
+  pub rise : LinesRise leap_line 0 contents.leaps next
+  pub expiries_rise : LinesRise expiry_line 0 contents.expiries next
   pub few : length contents.leaps ≤ most_leaps
 
-rise_on : (low : ℕ) (leaps : List WrittenLeap) (next : ℕ) → LinesRise low leaps next → LinesRise low leaps (next + 1)
-rise_on low [] next h = omega (arith, h)
-rise_on low (leap ∷ leaps) next h = (h.0, rise_on (leap.line + 1) leaps next h.1)
+rise_on : {X : Type 0} (line : X → ℕ) (low : ℕ) (xs : List X) (next : ℕ) → LinesRise line low xs next → LinesRise line low xs (next + 1)
+rise_on line low [] next h = omega (arith, h)
+rise_on line low (x ∷ xs) next h = (h.0, rise_on line (line x + 1) xs next h.1)
 
-rise_with : (low : ℕ) (leaps : List WrittenLeap) (next : ℕ) (entry : LeapEntry) → LinesRise low leaps next → LinesRise low (leaps ++ record { entry = entry; line = next } ∷ []) (next + 1)
-rise_with low [] next entry h = (h, omega arith)
-rise_with low (leap ∷ leaps) next entry h = (h.0, rise_with (leap.line + 1) leaps next entry h.1)
+rise_with : {X : Type 0} (line : X → ℕ) (low : ℕ) (xs : List X) (next : ℕ) (x : X) → line x ≡ next → LinesRise line low xs next → LinesRise line low (xs ++ x ∷ []) (next + 1)
+rise_with line low [] next x is h = (omega (arith, is, h), omega (arith, is))
+rise_with line low (y ∷ xs) next x is h = (h.0, rise_with line (line y + 1) xs next x is h.1)
 
 pub good_with : (contents : LeapContents) (number : ℕ) (line : List ℕ) (said : Option LeapRecord) → leap_line_says number (length contents.leaps) line ≡ Ok said → GoodLeaps contents number → GoodLeaps (with_leap_record number said contents) (number + 1)
 good_with contents number line None is good =
-    record { rise = rise_on 0 contents.leaps number good.rise; few = good.few }
+    record { rise = rise_on leap_line 0 contents.leaps number good.rise; expiries_rise = rise_on expiry_line 0 contents.expiries number good.expiries_rise; few = good.few }
 good_with contents number line (Some (SecondRecord entry)) is good =
     record {
-      rise = rise_with 0 contents.leaps number entry good.rise;
+      rise = rise_with leap_line 0 contents.leaps number (record { entry = entry; line = number }) refl good.rise;
+      expiries_rise = rise_on expiry_line 0 contents.expiries number good.expiries_rise;
       few = omega (arith, length-append contents.leaps (record { entry = entry; line = number } ∷ []), leap_room number (length contents.leaps) line entry is);
     }
 good_with contents number line (Some (ExpiryRecord moment)) is good =
-    record { rise = rise_on 0 contents.leaps number good.rise; few = good.few }
+    record {
+      rise = rise_on leap_line 0 contents.leaps number good.rise;
+      expiries_rise = rise_with expiry_line 0 contents.expiries number (record { moment = moment; line = number }) refl good.expiries_rise;
+      few = good.few;
+    }
 
 -- what lines give, by what the first of them says
 abbrev pub given_by : LeapContents → ℕ → List (List ℕ) → Result (Option LeapRecord) Cause → Result LeapContents Fault
@@ -243,7 +255,7 @@ good_after contents found number (line ∷ lines) good h =
 pub text_good : (text : List ℕ) (contents : LeapContents) → leap_contents_of text ≡ Ok contents → (last : ℕ) × GoodLeaps contents last
 unfolding leap_contents_of
 text_good text contents h =
-    good_after no_leap_contents contents 1 (lines_of text) (record { rise = omega arith; few = omega arith }) h
+    good_after no_leap_contents contents 1 (lines_of text) (record { rise = omega arith; expiries_rise = omega arith; few = omega arith }) h
 
 -- ---- and where none repeats a date, their dates differ
 
@@ -295,7 +307,7 @@ away_one : (same before : Bool) → before ≡ true → (same && before) ≡ fal
 away_one true before h k = let bad : true ≡ false = sym h ∙ k in absurd (cc)
 away_one false before h k = refl
 
-away_each : (all : List WrittenLeap) (a : WrittenLeap) (rest : List WrittenLeap) (low next : ℕ) → a.line < low → LinesRise low rest next → filter_map (repeated_leap all) all ≡ [] → Contains all a → ((z : WrittenLeap) → Contains rest z → Contains all z) → Each (Away a.entry.date) (entries_of rest)
+away_each : (all : List WrittenLeap) (a : WrittenLeap) (rest : List WrittenLeap) (low next : ℕ) → a.line < low → LinesRise leap_line low rest next → filter_map (repeated_leap all) all ≡ [] → Contains all a → ((z : WrittenLeap) → Contains rest z → Contains all z) → Each (Away a.entry.date) (entries_of rest)
 away_each all a [] low next below rise none is into = tt
 away_each all a (b ∷ rest) low next below rise none is into =
     let before : nat_lt a.line b.line ≡ true = on_numbers a.line b.line low below rise.0 in (
@@ -306,7 +318,7 @@ away_each all a (b ∷ rest) low next below rise none is into =
     on_numbers : (a b low : ℕ) → a < low → low ≤ b → nat_lt a b ≡ true
     on_numbers a b low below upto = grind (arith, nat_tests)
 
-apart_all : (all rest : List WrittenLeap) (low next : ℕ) → LinesRise low rest next → filter_map (repeated_leap all) all ≡ [] → ((z : WrittenLeap) → Contains rest z → Contains all z) → Apart (entries_of rest)
+apart_all : (all rest : List WrittenLeap) (low next : ℕ) → LinesRise leap_line low rest next → filter_map (repeated_leap all) all ≡ [] → ((z : WrittenLeap) → Contains rest z → Contains all z) → Apart (entries_of rest)
 apart_all all [] low next rise none into = tt
 apart_all all (a ∷ rest) low next rise none into = (
   away_each all a rest (a.line + 1) next (omega arith) rise.1 none (into a (is_first a rest)) (λ z there. into z (is_later a z rest there)),
