@@ -10,12 +10,13 @@ pub mod ZoneBegins
 pub mod LastZone
 pub mod Versions
 pub mod ZoneTextLines
+pub mod LeapReading
 pub mod LeapDates
-pub mod LeapOutcomes
 pub mod ToldLists
 pub mod LastLines
 pub mod FirstLines
 pub mod Leasts
+pub mod LeapTables
 pub mod ZoneOrder
 pub mod SortedZones
 pub mod UntilBounds

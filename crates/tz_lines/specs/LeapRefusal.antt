@@ -1,8 +1,8 @@
 -- When a leap text is refused.
 use Rattle.std.specs.Prelude.{ℕ, List}
+use Rattle.tz_specs.specs.LeapText.{RefusesLeaps}
 use Rattle.tz_lines.specs.declared.error.ReadError.{ReadError}
 use Rattle.tz_lines.specs.declared.error.ReadError.TheVariants as errors
-use Rattle.tz_lines.specs.LeapText.{RefusesLeaps}
 
 -- Want of memory may come at any time; a fault comes only where the text is refused with it.
 abbrev pub MeansRefusal : ReadError → List ℕ → Type 0

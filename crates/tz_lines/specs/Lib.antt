@@ -11,7 +11,7 @@ pub mod PlainZone
 pub mod LineOrder
 pub mod Refusal
 pub mod Locate
-pub mod LeapText
-pub mod LeapOutcome
+pub mod LeapContents
+pub mod LeapFaults
 pub mod LeapRefusal
 pub mod Messages

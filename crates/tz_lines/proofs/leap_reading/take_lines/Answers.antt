@@ -1,12 +1,22 @@
-use Rattle.std.proofs.Common.{◌≡◌, sym, ap, ◌∙◌, []}
+use Rattle.std.proofs.Common.{◌≡◌, [], sym, ap, ◌∙◌, arith}
 use Rattle.tz_specs.specs.Line.{lines_of}
-use Rattle.tz_lines.specs.LeapOutcome.{leap_outcome}
+use Rattle.tz_specs.specs.LeapText.{leap_contents_after}
+use Rattle.tz_specs.proofs.LeapTextLemmas.{contents_end}
+use Rattle.tz_lines.specs.LeapContents.{contents_meant}
 use Rattle.tz_lines.proofs.Lines.{nothing_left, lines-none}
-use Rattle.tz_lines.proofs.LeapOutcomes.{outcome_end}
+use Rattle.tz_lines.proofs.LeapReading.{from_none}
 use Rattle.tz_lines.proofs.leap_reading.take_lines.Goals as goal
+
+pub loop-rest-init : goal.loop-rest-init
+loop-rest-init c =
+    record {
+      same = from_none (contents_meant c.new-contents.result) c.args.text.now c.new-contents.ensures;
+      within = omega arith;
+    }
 
 pub returns-clause-ok : goal.returns-clause-ok
 returns-clause-ok c =
+    let contents = contents_meant c.loop-rest.contents in
     let none = nothing_left c.loop-rest.rest.now c.loop-rest-test.ensures in
     let lines : lines_of c.loop-rest.rest.now ≡ [] = ap lines_of none ∙ lines-none in
-    sym c.loop-rest.invariant.same ∙ ap (leap_outcome c.loop-rest.gathered.dates.items c.loop-rest.gathered.repeat c.loop-rest.gathered.count c.loop-rest.number) lines ∙ outcome_end c.loop-rest.gathered.dates.items c.loop-rest.gathered.repeat c.loop-rest.gathered.count c.loop-rest.number
+    sym c.loop-rest.invariant.same ∙ ap (leap_contents_after contents c.loop-rest.number) lines ∙ contents_end contents c.loop-rest.number

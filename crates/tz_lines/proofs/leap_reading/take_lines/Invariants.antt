@@ -1,18 +1,14 @@
-use Rattle.std.proofs.Common.{◌≡◌, ◌+◌, ◌≤◌, [], length, None, int_lt, IsTrue}
-use Rattle.tz_types.specs.Order.{ascends}
-use Rattle.tz_types.specs.Limit.{most_leaps}
+use Rattle.std.proofs.Common.{◌≡◌, ◌+◌, ◌≤◌, length}
 use Rattle.tz_specs.specs.Line.{lines_of}
-use Rattle.tz_lines.specs.LeapOutcome.{leap_outcome}
+use Rattle.tz_specs.specs.LeapText.{leap_contents_after, leap_contents_of}
+use Rattle.tz_lines.specs.LeapContents.{contents_meant}
 use Rattle.tz_lines.proofs.leap_reading.take_lines.Given as goal
 
--- the dates of the text are those of the records so far and of the lines that are left
+-- what the text gives is what the lines so far gave and what the lines that are left give
 abbrev pub invariant-loop-rest : goal.invariant-loop-rest
 invariant-loop-rest l =
     record {
-      same : leap_outcome l.gathered.dates.items l.gathered.repeat l.gathered.count l.number (lines_of l.rest) ≡ leap_outcome [] None 0 1 (lines_of l.text);
-      counted : l.gathered.count ≤ most_leaps;
-      ascend : IsTrue (ascends int_lt l.gathered.dates.items);
-      few : length l.gathered.dates.items ≤ l.gathered.count;
+      same : leap_contents_after (contents_meant l.contents) l.number (lines_of l.rest) ≡ leap_contents_of l.text;
       within : l.number + length l.rest ≤ 1 + length l.text;
     }
 
