@@ -1,3 +1,4 @@
+//! TAI and GPS, after ISO C++20 [time.clock.tai] and [time.clock.gps], each a fixed number of seconds from UTC.
 ghost use Rattle.std.specs.Prelude.{◌≡◌, ◌↔◌, ◌+ℤ◌, ◌-ℤ◌, IsOk, IfOk};
 ghost use Rattle.tz_specs.specs.LeapSecond.{IsUtcCount, tai_ahead, gps_behind, tai_count, gps_count};
 
@@ -14,7 +15,7 @@ const GPS_BEHIND: i64 = 315_964_809;
 /// The count of TAI at the UTC count `u`, in seconds from 1958-01-01 00:00:00 TAI.
 /// `OutOfRange` comes exactly where `u` isn't in the range of UTC counts.
 pub fn tai_of_utc(leaps: &Leaps, u: i64) -> Result<i64, OutOfRange>
-    ensures in_range { IsOk result ↔ IsUtcCount leaps.now.dates u }
+    ensures in_range { IsOk result ↔ IsUtcCount leaps.now.entries u }
     ensures value { IfOk result (λ tai. tai ≡ tai_count u) }
 {
     if is_utc_count(leaps, u) {
@@ -27,7 +28,7 @@ pub fn tai_of_utc(leaps: &Leaps, u: i64) -> Result<i64, OutOfRange>
 /// The count of GPS at the UTC count `u`, in seconds from 1980-01-06 00:00:00.
 /// `OutOfRange` comes exactly where `u` isn't in the range of UTC counts.
 pub fn gps_of_utc(leaps: &Leaps, u: i64) -> Result<i64, OutOfRange>
-    ensures in_range { IsOk result ↔ IsUtcCount leaps.now.dates u }
+    ensures in_range { IsOk result ↔ IsUtcCount leaps.now.entries u }
     ensures value { IfOk result (λ gps. gps ≡ gps_count u) }
 {
     if is_utc_count(leaps, u) {
@@ -40,7 +41,7 @@ pub fn gps_of_utc(leaps: &Leaps, u: i64) -> Result<i64, OutOfRange>
 /// The UTC count at the count `tai` of TAI, in seconds from 1970-01-01 00:00:00.
 /// `OutOfRange` comes exactly where that isn't in the range of UTC counts.
 pub fn utc_of_tai(leaps: &Leaps, tai: i64) -> Result<i64, OutOfRange>
-    ensures in_range { IsOk result ↔ IsUtcCount leaps.now.dates (tai -ℤ tai_ahead) }
+    ensures in_range { IsOk result ↔ IsUtcCount leaps.now.entries (tai -ℤ tai_ahead) }
     ensures value { IfOk result (λ u. u ≡ tai -ℤ tai_ahead) }
 {
     match tai.checked_sub(TAI_AHEAD) {
@@ -52,7 +53,7 @@ pub fn utc_of_tai(leaps: &Leaps, tai: i64) -> Result<i64, OutOfRange>
 /// The UTC count at the count `gps` of GPS, in seconds from 1970-01-01 00:00:00.
 /// `OutOfRange` comes exactly where that isn't in the range of UTC counts.
 pub fn utc_of_gps(leaps: &Leaps, gps: i64) -> Result<i64, OutOfRange>
-    ensures in_range { IsOk result ↔ IsUtcCount leaps.now.dates (gps +ℤ gps_behind) }
+    ensures in_range { IsOk result ↔ IsUtcCount leaps.now.entries (gps +ℤ gps_behind) }
     ensures value { IfOk result (λ u. u ≡ gps +ℤ gps_behind) }
 {
     match gps.checked_add(GPS_BEHIND) {

@@ -1,10 +1,10 @@
 //! The clocks of UTC, TAI and GPS: system times, which know no leap seconds, to the counts of these clocks and back.
 //!
-//! A UTC count is the number of seconds since 1970-01-01 00:00:00, the inserted ones among them. The leap dates
-//! say where seconds were inserted: each is the instant of the midnight that follows one. No call allocates, each
-//! searches the dates at most once, and each takes every `i64`: one that isn't in its range is answered by `OutOfRange`.
-//! A system time is in range from -9999-01-01 up to but excluding 10000-01-01. For a UTC count the range ends as
-//! many seconds later as there are leap dates. The layer above brings the dates, as `Leaps` of `tz_types`.
+//! A UTC count is the number of seconds since 1970-01-01 00:00:00, with the added ones and without the skipped ones. A leap
+//! table says which those are: each of its entries has the midnight that follows. No call allocates, each searches the
+//! entries at most once and looks up what those before a place add, and each takes every `i64`: one that isn't in its range
+//! is answered by `OutOfRange`. A system time is in range from -9999-01-01 up to but excluding 10000-01-01. For a UTC count
+//! the range ends as many seconds later as all entries add. The layer above brings the table, as `Leaps` of `tz_types`.
 #![tactic(auto)]
 
 mod atomic;
@@ -16,4 +16,4 @@ mod utc;
 
 pub use atomic::{gps_of_utc, tai_of_utc, utc_of_gps, utc_of_tai};
 pub use out_of_range::OutOfRange;
-pub use utc::{LeapInfo, leap_info, sys_of_utc, utc_of_sys};
+pub use utc::{leap_info, sys_of_utc, utc_of_sys};

@@ -1,39 +1,82 @@
-ghost use Rattle.std.specs.Prelude.{◌≡◌, ◌≤◌, length, count_by, int_lt, int_le, pos, ◌≤ℤ◌, IsTrue};
+//! One search in the entries of a leap table: by their dates, or by the UTC counts from which they count. What the entries
+//! before a place add is looked up, and not summed.
+ghost use Rattle.std.specs.Prelude.{◌≡◌, ◌≤◌, ◌<◌, length, map, take, slice_index_or, count_by, int_lt, int_le, pos, if◌then◌else◌, IsTrue};
+ghost use Rattle.jiff_core.specs.Calendar.{IsWithin};
 ghost use Rattle.tz_types.specs.Order.{ascends};
-ghost use Rattle.tz_types.specs.Limit.{most_leaps};
-ghost use Rattle.tz_specs.specs.Expansion.{first_instant};
-ghost use Rattle.tz_specs.specs.LeapSecond.{elapsed_by};
+ghost use Rattle.tz_types.specs.Leap.{sum_where};
+ghost use Rattle.tz_types.specs.declared.leap_entry.LeapEntry.{LeapEntry};
+ghost use Rattle.tz_specs.specs.LeapSecond.{all_seconds, counts_at};
 
-/// How many of the leap dates lie at or before the system time.
-pub(crate) fn dates_by(dates: &[i64], t: i64) -> usize
-    requires { IsTrue (ascends int_lt dates.now) }
-    ensures count { result ≡ count_by (λ date. int_le date t) dates.now }
-    ensures bound { result ≤ length dates.now }
+use tz_types::{LeapEntry, Leaps};
+
+/// How many seconds the entries before a place add.
+pub(crate) fn sum_before(leaps: &Leaps, place: usize) -> i64
+    requires { place ≤ length leaps.now.entries }
+    ensures value { result ≡ all_seconds (take place leaps.now.entries) }
+    ensures bound { IsWithin 1_024 result }
 {
-    dates.partition_point(
-        |date: &i64| -> bool
-            ensures { result ≡ int_le date.now t }
-        { *date <= t },
+    leaps.sums.as_slice()[place]
+}
+
+/// How many seconds all entries add.
+pub(crate) fn sum_of_all(leaps: &Leaps) -> i64
+    ensures value { result ≡ all_seconds leaps.now.entries }
+    ensures bound { IsWithin 1_024 result }
+{
+    sum_before(leaps, leaps.entries.len())
+}
+
+/// How many of the entries lie at or before the system time.
+fn entries_by(entries: &[LeapEntry], t: i64) -> usize
+    requires { IsTrue (ascends int_lt (map (λ entry. entry.date) entries.now)) }
+    ensures count { result ≡ count_by (λ entry. int_le entry.date t) entries.now }
+    ensures bound { result ≤ length entries.now }
+{
+    entries.partition_point(
+        |entry: &LeapEntry| -> bool
+            ensures { result ≡ int_le entry.now.date t }
+        { entry.date <= t },
     )
 }
 
-/// How many inserted seconds lie at or before the UTC count.
-///
-/// As many seconds were inserted before a leap date's own as dates stand before it. So the inserted second of the
-/// date at a place, counted from 0, lies that many seconds after the date, and these UTC counts ascend.
-pub(crate) fn elapsed_at(dates: &[i64], u: i64) -> usize
-    requires ascending { IsTrue (ascends int_lt dates.now) }
-    requires few_enough { length dates.now ≤ most_leaps }
-    requires in_range { first_instant ≤ℤ u }
-    ensures count { pos result ≡ elapsed_by dates.now u }
-    ensures bound { result ≤ length dates.now }
+/// How many seconds the entries at or before the system time add.
+pub(crate) fn added_by(leaps: &Leaps, t: i64) -> i64
+    ensures value { result ≡ sum_where (λ entry. int_le entry.date t) leaps.now.entries }
+    ensures bound { IsWithin 1_024 result }
+{
+    sum_before(leaps, entries_by(leaps.entries.as_slice(), t))
+}
+
+/// By how much an entry counts earlier than at its date and what the entries before it add: a skipped second by one.
+fn lead(entry: LeapEntry) -> i64
+    ensures value { result ≡ (if entry.added then pos 0 else pos 1) }
+    ensures bound { IsWithin 1 result }
+{
+    if entry.added { 0 } else { 1 }
+}
+
+/// Whether the entry at a place counts at the UTC count.
+fn counts_at(leaps: &Leaps, place: usize, u: i64) -> bool
+    requires there { place < length leaps.now.entries }
+    requires near { IsWithin 377_705_116_800 u }
+    ensures { (missing : LeapEntry) → result ≡ counts_at leaps.now.entries u (slice_index_or leaps.now.entries place missing) }
+{
+    let entry = leaps.entries.as_slice()[place];
+    // Taken from u, since the sum with the date may not fit.
+    entry.date <= u - sum_before(leaps, place) + lead(entry)
+}
+
+/// How many entries count at the UTC count. They are the first so many.
+pub(crate) fn entries_at(leaps: &Leaps, u: i64) -> usize
+    requires { IsWithin 377_705_116_800 u }
+    ensures count { result ≡ count_by (counts_at leaps.now.entries u) leaps.now.entries }
+    ensures bound { result ≤ length leaps.now.entries }
 {
     let mut low = 0;
-    let mut high = dates.len();
+    let mut high = leaps.entries.len();
     while low < high {
         let middle = low + (high - low) / 2;
-        // Taken from u, since the sum with the date may not fit.
-        if dates[middle] <= u - middle as i64 {
+        if counts_at(leaps, middle, u) {
             low = middle + 1;
         } else {
             high = middle;

@@ -179,7 +179,7 @@ pub record IsReached (xs : List LeapEntry) (t : ℤ) (m : ℕ) : Type 0 where
   pub upto : (k : ℕ) → k < m → date_at xs k ≤ℤ t
   pub after : (k : ℕ) → m ≤ k → k < length xs → t <ℤ date_at xs k
 
-reached_exists : (xs : List LeapEntry) → ascends int_lt (dates xs) ≡ true → (t : ℤ) → (m : ℕ) × IsReached xs t m
+pub reached_exists : (xs : List LeapEntry) → ascends int_lt (dates xs) ≡ true → (t : ℤ) → (m : ℕ) × IsReached xs t m
 reached_exists xs up t =
     let passes : ℕ → Bool = λ k. int_le (date_at xs k) t in
     let found = place_between passes (length xs)
@@ -365,7 +365,7 @@ begin_by : (added : Bool) (date sum inserted count : ℤ) → inserted ≡ date 
 begin_by true date sum inserted count is are = omega (arith, ints)
 begin_by false date sum inserted count is are = omega (arith, ints)
 
-begin_is : (xs : List LeapEntry) → ascends int_lt (dates xs) ≡ true → (k : ℕ) → k < length xs → (if added_at xs k then inserted_second xs (date_at xs k) else utc_count xs (date_at xs k)) ≡ begin_at xs k
+pub begin_is : (xs : List LeapEntry) → ascends int_lt (dates xs) ≡ true → (k : ℕ) → k < length xs → (if added_at xs k then inserted_second xs (date_at xs k) else utc_count xs (date_at xs k)) ≡ begin_at xs k
 begin_is xs up k within =
     begin_by (added_at xs k) (date_at xs k) (sum_to xs k) (inserted_second xs (date_at xs k)) (utc_count xs (date_at xs k)) (inserted_second_at xs up k within) (utc_count_at xs up k within)
 

@@ -1,24 +1,20 @@
-use Rattle.std.proofs.Common.{◌≡◌, ◌-◌, ◌∙◌, arith, get_or, ap, nat_eq, pos, ℤ, ◌-ℤ◌, FitsSigned, to_z, of_z, rules}
+use Rattle.std.proofs.Common.{◌≡◌, ◌-◌, ◌∙◌, sym, false, nat_lt, arith, FitsSigned}
 use Rattle.std.specs.Int.{w64}
-use Rattle.std.proofs.lemmas.Int.{ints}
-use Rattle.tz_specs.proofs.LeapLemmas.{elapsed_from_count, inserted_place}
-use Rattle.tz_leap.proofs.SearchLemmas.{same_bits, none_below}
+use Rattle.std.proofs.lemmas.Int.{to_z-of_z}
+use Rattle.std.proofs.lemmas.Bool.Decides.{nat_tests}
+use Rattle.tz_specs.proofs.LeapLemmas.{no_entry}
+use Rattle.tz_leap.proofs.SearchLemmas.{second_from_count, none_from_count}
 use Rattle.tz_leap.proofs.utc.is_inserted_second.Goals as goal
 
-pub returns-then-elapsed-gt0 : goal.returns-then-elapsed-gt0
-returns-then-elapsed-gt0 c =
+pub returns-then-count-gt0 : goal.returns-then-count-gt0
+returns-then-count-gt0 c =
     let fits : FitsSigned w64 c.args.u = c.ranges.u in
-    let dates = c.args.dates.now in
-    let place = c.args.elapsed - 1 in
-    let date = get_or dates place (pos 0) in
-    let back = c.args.u -ℤ pos place in
-    let date_fits : FitsSigned w64 date = search rules in
-    let back_fits : FitsSigned w64 back = omega (arith, ints, c.requires.in_range, c.requires.bound, c.requires.few_enough) in
-    let same : to_z w64 (of_z w64 c.args.u) -ℤ to_z w64 place ≡ back = omega (arith, ints, c.requires.bound, c.requires.few_enough) in
-    ap (λ (z : ℤ). nat_eq (of_z w64 date) (of_z w64 z)) same
-    ∙ same_bits date back date_fits back_fits
-    ∙ inserted_place dates c.requires.ascending c.args.u c.args.elapsed place (elapsed_from_count dates c.requires.ascending c.args.u c.args.elapsed c.requires.count) (omega (arith, c.if-elapsed-gt0.true))
+    let leaps = c.args.leaps.now in
+    let test = simp to_z-of_z at (c.is_second_of.ensures no_entry) in
+    test ∙ second_from_count leaps.entries leaps.ascending c.args.u c.args.count (c.args.count - 1) c.requires.counted (omega (arith, c.if-count-gt0.true))
 
-pub returns-else-elapsed-gt0 : goal.returns-else-elapsed-gt0
-returns-else-elapsed-gt0 c =
-    none_below c.args.dates.now c.requires.ascending c.args.u c.args.elapsed c.requires.count (omega (arith, c.if-elapsed-gt0.false))
+pub returns-else-count-gt0 : goal.returns-else-count-gt0
+returns-else-count-gt0 c =
+    let leaps = c.args.leaps.now in
+    let none : nat_lt 0 c.args.count ≡ false = grind (arith, nat_tests, c.if-count-gt0.false) in
+    none ∙ sym (none_from_count leaps.entries leaps.ascending c.args.u c.args.count c.requires.counted (omega (arith, c.if-count-gt0.false)))
