@@ -13,7 +13,7 @@ use std::rt::{Env, Files};
 use std::{env, fs, io};
 use tz_leap::{sys_of_utc, utc_of_sys};
 use tz_lines::read_leaps;
-use tz_types::Leaps;
+use tz_types::{LeapEntry, Leaps};
 
 /// The most bytes of a leap text.
 const MOST_BYTES: usize = 4_194_304;
@@ -44,8 +44,8 @@ impl Instants {
 }
 
 /// How many leap dates lie at or before an instant, by a plain binary search.
-fn dates_by(dates: &[i64], t: i64) -> i64 {
-    match dates.binary_search(&t) {
+fn dates_by(entries: &[LeapEntry], t: i64) -> i64 {
+    match entries.binary_search_by_key(&t, |entry| entry.date) {
         Ok(place) => place as i64,
         Err(place) => place as i64,
     }
@@ -56,7 +56,7 @@ fn done(work: Work, leaps: &Leaps, t: i64) -> i64 {
     match work {
         Work::Utc => utc_of_sys(leaps, t).unwrap_or(0),
         Work::Sys => sys_of_utc(leaps, t).unwrap_or(0),
-        Work::Search => dates_by(leaps.dates.as_slice(), t),
+        Work::Search => dates_by(leaps.entries.as_slice(), t),
     }
 }
 

@@ -1,11 +1,10 @@
 -- Words are those of one command at most, and a command has one status over a content: the reasons exclude each other.
-use Rattle.std.proofs.Common.{◌≡◌, ℕ, nat_eq, ◌<◌, ◌≤◌, ◌⊎◌, inl, inr, List, [], ◌∷◌, length, codes, Option, Some, find, Ok, Err, refl, sym, ap, ◌∙◌, arith, ℤ}
+use Rattle.std.proofs.Common.{◌≡◌, ℕ, nat_eq, ◌<◌, ◌≤◌, ◌⊎◌, inl, inr, List, [], ◌∷◌, length, codes, Option, Some, find, Ok, Err, refl, sym, ap, ◌∙◌, subst, arith, ℤ}
 use Rattle.std.specs.Cmp.Lexicographic.{pointwise}
-use Rattle.std.proofs.lemmas.List.Sorted.{length_permutation}
 use Rattle.tz_types.specs.declared.fault.Fault.{Fault}
-use Rattle.tz_types.specs.declared.leap_dates.Leaps.{Leaps}
+use Rattle.tz_types.specs.declared.leaps.Leaps.{Leaps}
 use Rattle.tz_specs.specs.Number.{signed_number_of}
-use Rattle.tz_lines.specs.LeapText.{ReadsLeaps, RefusesLeaps}
+use Rattle.tz_specs.specs.LeapText.{ReadsLeaps, RefusesLeaps}
 use Rattle.tz_cli.specs.Conversion.{conversion_word, IsConvertible}
 use Rattle.tz_cli.specs.Command.{Command, Info, Check, Clock, IsCommand}
 use Rattle.tz_cli.specs.Info.{InfoAnswers}
@@ -17,6 +16,7 @@ use Rattle.tz_cli.specs.declared.conversion.Conversion.TheVariants as conversion
 use Rattle.tz_cli.specs.declared.status.Status.{Status}
 use Rattle.tz_cli.specs.declared.status.Status.TheVariants as statuses
 use Rattle.tz_specs.proofs.SoFarLemmas.{read_isnt_refused_so_far}
+use Rattle.tz_specs.proofs.LeapTextLemmas.{one_leap_table, read_leaps_are_not_refused}
 use Rattle.tz_cli.proofs.Texts.{some_not_none}
 
 abbrev all_conversions : List Conversion
@@ -115,40 +115,24 @@ check_once text statuses.Text statuses.Text line other a b = refl
 check_once text statuses.Text s line other a b = absurd b
 check_once text r s line other a b = absurd a
 
-leaps_not_refused : (text : List ℕ) (leaps : Leaps) (fault : Fault) → ReadsLeaps text leaps → RefusesLeaps text fault → ⊥
-leaps_not_refused text leaps fault reads refused =
-    let both : Ok reads.written ≡ Err fault = sym reads.read ∙ refused in cc
-
--- as many leap dates are read of a text each time
-same_length : (text : List ℕ) (a b : Leaps) → ReadsLeaps text a → ReadsLeaps text b → length a.dates ≡ length b.dates
-same_length text a b first second =
-    let read : Ok first.written ≡ Ok second.written = sym first.read ∙ second.read in
-    let written : first.written ≡ second.written = cc in
-    length_permutation first.written a.dates first.same ∙ ap length written ∙ sym (length_permutation second.written b.dates second.same)
-
--- a range of counts depends on the number of leap dates alone
-convertible_same : (conversion : Conversion) (a b : List ℤ) (number : ℤ) → length a ≡ length b → IsConvertible conversion a number → IsConvertible conversion b number
-convertible_same conversions.SysToUtc a b number same inside = inside
-convertible_same conversions.UtcToSys a b number same inside = rw same at inside
-convertible_same conversions.UtcInfo a b number same inside = rw same at inside
-convertible_same conversions.UtcToTai a b number same inside = rw same at inside
-convertible_same conversions.TaiToUtc a b number same inside = rw same at inside
-convertible_same conversions.UtcToGps a b number same inside = rw same at inside
-convertible_same conversions.GpsToUtc a b number same inside = rw same at inside
+-- a number is in range of one table or of none
+convertible_same : (text : List ℕ) (conversion : Conversion) (a b : Leaps) (number : ℤ) → ReadsLeaps text a → ReadsLeaps text b → IsConvertible conversion a number → IsConvertible conversion b number
+convertible_same text conversion a b number first second inside =
+    subst (λ it. IsConvertible conversion it number) (one_leap_table text a b first second) inside
 
 clock_once : (text : List ℕ) (conversion : Conversion) (number : ℤ) (r s : Status) (line other : List ℕ) → ClockAnswers text conversion number r line → ClockAnswers text conversion number s other → r ≡ s
 clock_once text conversion number statuses.Ok statuses.Ok line other a b = refl
-clock_once text conversion number statuses.Ok statuses.Text line other a b = absurd (leaps_not_refused text a.leaps b.0 a.reads b.1)
+clock_once text conversion number statuses.Ok statuses.Text line other a b = absurd (read_leaps_are_not_refused text a.leaps b.0 a.reads b.1)
 clock_once text conversion number statuses.Ok statuses.Range line other a b =
-    absurd (b.0.outside (convertible_same conversion a.leaps.dates b.0.leaps.dates number (same_length text a.leaps b.0.leaps a.reads b.0.reads) a.inside))
+    absurd (b.0.outside (convertible_same text conversion a.leaps b.0.leaps number a.reads b.0.reads a.inside))
 clock_once text conversion number statuses.Ok s line other a b = absurd b
-clock_once text conversion number statuses.Text statuses.Ok line other a b = absurd (leaps_not_refused text b.leaps a.0 b.reads a.1)
+clock_once text conversion number statuses.Text statuses.Ok line other a b = absurd (read_leaps_are_not_refused text b.leaps a.0 b.reads a.1)
 clock_once text conversion number statuses.Text statuses.Text line other a b = refl
-clock_once text conversion number statuses.Text statuses.Range line other a b = absurd (leaps_not_refused text b.0.leaps a.0 b.0.reads a.1)
+clock_once text conversion number statuses.Text statuses.Range line other a b = absurd (read_leaps_are_not_refused text b.0.leaps a.0 b.0.reads a.1)
 clock_once text conversion number statuses.Text s line other a b = absurd b
 clock_once text conversion number statuses.Range statuses.Ok line other a b =
-    absurd (a.0.outside (convertible_same conversion b.leaps.dates a.0.leaps.dates number (same_length text b.leaps a.0.leaps b.reads a.0.reads) b.inside))
-clock_once text conversion number statuses.Range statuses.Text line other a b = absurd (leaps_not_refused text a.0.leaps b.0 a.0.reads b.1)
+    absurd (a.0.outside (convertible_same text conversion b.leaps a.0.leaps number b.reads a.0.reads b.inside))
+clock_once text conversion number statuses.Range statuses.Text line other a b = absurd (read_leaps_are_not_refused text a.0.leaps b.0 a.0.reads b.1)
 clock_once text conversion number statuses.Range statuses.Range line other a b = refl
 clock_once text conversion number statuses.Range s line other a b = absurd b
 clock_once text conversion number r s line other a b = absurd a

@@ -1,26 +1,26 @@
 -- What `clock` answers over a leap text.
 use Rattle.std.specs.Prelude.{◌≡◌, ℕ, List, ℤ, codes}
 use Rattle.tz_types.specs.declared.fault.Fault.{Fault}
-use Rattle.tz_types.specs.declared.leap_dates.Leaps.{Leaps}
-use Rattle.tz_lines.specs.LeapText.{ReadsLeaps, RefusesLeaps}
+use Rattle.tz_types.specs.declared.leaps.Leaps.{Leaps}
+use Rattle.tz_specs.specs.LeapText.{ReadsLeaps, RefusesLeaps}
 use Rattle.tz_cli.specs.Line.{fault_line}
 use Rattle.tz_cli.specs.Conversion.{IsConvertible, IsConversionLine}
 use Rattle.tz_cli.specs.declared.conversion.Conversion.{Conversion}
 use Rattle.tz_cli.specs.declared.status.Status.{Status}
 use Rattle.tz_cli.specs.declared.status.Status.TheVariants as statuses
 
--- The number is in range for the text's leap dates, and the line is that of its conversion.
+-- The number is in range for the text's leap table, and the line is that of its conversion.
 pub record IsClockLine (text : List ℕ) (conversion : Conversion) (number : ℤ) (line : List ℕ) : Type 0 where
   pub leaps : Leaps
   pub reads : ReadsLeaps text leaps
-  pub inside : IsConvertible conversion leaps.dates number
-  pub line_is : IsConversionLine conversion leaps.dates number line
+  pub inside : IsConvertible conversion leaps number
+  pub line_is : IsConversionLine conversion leaps number line
 
--- The number is out of range for the text's leap dates.
+-- The number is out of range for the text's leap table.
 pub record IsOutOfClock (text : List ℕ) (conversion : Conversion) (number : ℤ) : Type 0 where
   pub leaps : Leaps
   pub reads : ReadsLeaps text leaps
-  pub outside : ¬ (IsConvertible conversion leaps.dates number)
+  pub outside : ¬ (IsConvertible conversion leaps number)
 
 -- The leap text is refused, and the line says with which fault.
 abbrev pub IsLeapRefusal : List ℕ → List ℕ → Type 0

@@ -4,6 +4,7 @@ use Rattle.std.specs.List.{sum_by}
 use Rattle.std.specs.Fmt.{decimal, signed_decimal}
 use Rattle.tz_types.specs.declared.range.SysInfo.{SysInfo}
 use Rattle.tz_types.specs.declared.fault.Fault.{Fault}
+use Rattle.tz_types.specs.declared.leap_info.LeapInfo.{LeapInfo}
 use Rattle.tz_types.specs.declared.rule_set.RuleSet.{RuleSet}
 use Rattle.tz_types.specs.declared.database.Db.{Db}
 
@@ -26,10 +27,12 @@ range_line range = range_text range ++ codes "\n"
 abbrev pub number_line : ℤ → List ℕ
 number_line number = signed_decimal number ++ codes "\n"
 
--- `leap E` for an inserted second and `plain E` for another, where E seconds were inserted up to it
-unfoldable pub leap_line : Bool → ℤ → List ℕ
-leap_line is_leap elapsed =
-    (if is_leap then codes "leap " else codes "plain ") ++ signed_decimal elapsed ++ codes "\n"
+-- `leap E` for an added second and `plain E` for another, where E seconds were added up to it, less those that were
+-- skipped, and behind it ` expired` where the table isn't known to hold
+unfoldable pub leap_line : LeapInfo → List ℕ
+leap_line info =
+    (if info.is_leap then codes "leap " else codes "plain ") ++ signed_decimal info.elapsed
+    ++ (if info.expired then codes " expired" else []) ++ codes "\n"
 
 -- how many rules a database has, in all its sets
 abbrev pub rule_count : Db → ℕ

@@ -3,18 +3,17 @@ ghost use Rattle.tz_cli.specs.Line.{number_line, leap_line};
 ghost use Rattle.tz_cli.specs.Conversion.{IsConvertible, IsConversionLine};
 ghost use Rattle.tz_cli.specs.Clock.{ClockAnswers};
 ghost use Rattle.tz_cli.specs.Refusal.{Gives, RefusesRange};
-ghost use Rattle.tz_leap.specs.declared.utc.LeapInfo.{LeapInfo};
+ghost use Rattle.tz_types.specs.declared.leap_info.LeapInfo.{LeapInfo};
 
 use crate::conversion::Conversion;
 use crate::line::{leap_line, number_line};
 use crate::refusal::Refusal;
 use std::alloc::Global;
 use tz_leap::{
-    LeapInfo, OutOfRange, gps_of_utc, leap_info, sys_of_utc, tai_of_utc, utc_of_gps, utc_of_sys,
-    utc_of_tai,
+    OutOfRange, gps_of_utc, leap_info, sys_of_utc, tai_of_utc, utc_of_gps, utc_of_sys, utc_of_tai,
 };
 use tz_lines::{ReadError, read_leaps};
-use tz_types::Leaps;
+use tz_types::{LeapInfo, Leaps};
 
 /// The line of a count, where it is in range.
 fn count_line(alloc: Global, count: Result<i64, OutOfRange>) -> Result<Vec<u8>, Refusal>
@@ -32,7 +31,7 @@ fn count_line(alloc: Global, count: Result<i64, OutOfRange>) -> Result<Vec<u8>, 
 
 /// The line of what there is to know of a UTC count, where it is in range.
 fn info_line(alloc: Global, info: Result<LeapInfo, OutOfRange>) -> Result<Vec<u8>, Refusal>
-    ensures line { IfOk result (λ line. (told : LeapInfo) × (info ≡ Ok told) × (line.items ≡ leap_line told.is_leap told.elapsed)) }
+    ensures line { IfOk result (λ line. (told : LeapInfo) × (info ≡ Ok told) × (line.items ≡ leap_line told)) }
     ensures refused { IfErr result (λ refusal. RefusesRange (IsErr info) refusal) }
 {
     match info {
@@ -51,9 +50,9 @@ fn conversion_line(
     conversion: Conversion,
     number: i64,
 ) -> Result<Vec<u8>, Refusal>
-    ensures inside { OnOk result (IsConvertible conversion leaps.now.dates number) }
-    ensures line { IfOk result (λ line. IsConversionLine conversion leaps.now.dates number line.items) }
-    ensures refused { IfErr result (λ refusal. RefusesRange (¬ (IsConvertible conversion leaps.now.dates number)) refusal) }
+    ensures inside { OnOk result (IsConvertible conversion leaps.now number) }
+    ensures line { IfOk result (λ line. IsConversionLine conversion leaps.now number line.items) }
+    ensures refused { IfErr result (λ refusal. RefusesRange (¬ (IsConvertible conversion leaps.now number)) refusal) }
 {
     match conversion {
         Conversion::SysToUtc => count_line(alloc, utc_of_sys(leaps, number)),
@@ -66,7 +65,7 @@ fn conversion_line(
     }
 }
 
-/// The line that `clock` prints: that of the number's conversion with the leap dates of the text.
+/// The line that `clock` prints: that of the number's conversion with the leap table of the text.
 pub fn clock(
     alloc: Global,
     text: &[u8],

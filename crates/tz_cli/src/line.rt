@@ -1,11 +1,10 @@
-ghost use Rattle.std.specs.Prelude.{◌≡◌, ◌≤◌, ◌<◌, ◌*◌, ◌^◌, ◌++◌, codes, if◌then◌else◌, IfOk, OnOk};
+ghost use Rattle.std.specs.Prelude.{◌≡◌, ◌≤◌, ◌<◌, ◌*◌, ◌^◌, ◌++◌, [], codes, if◌then◌else◌, IfOk, OnOk};
 ghost use Rattle.std.specs.Fmt.{decimal};
 ghost use Rattle.tz_cli.specs.Line.{shown, range_line, number_line, leap_line, rule_count, check_line, fault_line};
 
 use std::alloc::Global;
-use tz_leap::LeapInfo;
 use tz_text::put_number;
-use tz_types::{Abbrev, Db, Fault, NoMemory, SysInfo};
+use tz_types::{Abbrev, Db, Fault, LeapInfo, NoMemory, SysInfo};
 
 /// An abbreviation, and `""` where it has no bytes.
 fn shown(abbreviation: &Abbrev) -> &[u8]
@@ -46,20 +45,28 @@ pub fn number_line(alloc: Global, number: i64) -> Result<Vec<u8>, NoMemory>
     Ok(line)
 }
 
-/// The word for an inserted second, and that for another.
+/// The word for an added second, and that for another.
 fn leap_word(is_leap: bool) -> &'static [u8]
     ensures { result.now ≡ (if is_leap then codes "leap " else codes "plain ") }
 {
     if is_leap { b"leap " } else { b"plain " }
 }
 
+/// The word that stands behind where the table isn't known to hold.
+fn expired_word(expired: bool) -> &'static [u8]
+    ensures { result.now ≡ (if expired then codes " expired" else []) }
+{
+    if expired { b" expired" } else { b"" }
+}
+
 /// The line of what there is to know of a UTC count.
 #[tactic(auto, unfolding(crate::specs::Line::leap_line))]
 pub fn leap_line(alloc: Global, info: LeapInfo) -> Result<Vec<u8>, NoMemory>
-    ensures { IfOk result (λ line. line.items ≡ leap_line info.is_leap info.elapsed) }
+    ensures { IfOk result (λ line. line.items ≡ leap_line info) }
 {
     let mut line = leap_word(info.is_leap).to_vec(alloc)?;
     put_number(&mut line, info.elapsed)?;
+    line.extend_from_slice(expired_word(info.expired))?;
     line.extend_from_slice(b"\n")?;
     Ok(line)
 }

@@ -3,4 +3,3 @@ pub mod States
 pub mod Pieces
 pub mod Numbers
 pub mod Locals
-pub mod Leaps

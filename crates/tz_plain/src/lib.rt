@@ -1,12 +1,10 @@
-//! The meaning of zones and of leap seconds computed plainly: every occurrence is listed, every line cut, every
-//! range and every leap date looked at, just as the definitions say. It is slow, and stays so: faster programs
-//! are compared with it.
+//! The meaning of zones computed plainly: every occurrence is listed, every line cut and every range looked at, just
+//! as the definitions say. It is slow, and stays so: faster programs are compared with it.
 //!
 //! The contract of each function is its definition. Nothing that is shipped stands on this crate.
 #![tactic(auto)]
 
 mod keeping;
-mod leaping;
 mod listing;
 mod local;
 mod naming;
@@ -18,9 +16,6 @@ mod until;
 mod zone;
 
 pub use keeping::Keeping;
-pub use leaping::{
-    elapsed_by, gps_count, inserted_second, is_inserted, system_time, tai_count, utc_count,
-};
 pub use listing::occurrences;
 pub use local::{candidates, chosen_instant, local_info, range_at};
 pub use naming::abbreviation;

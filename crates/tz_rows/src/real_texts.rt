@@ -1,9 +1,10 @@
 //! Texts that the machine may have. Where it has none, nothing is tested.
+use std::alloc::{AllocError, Global};
 use std::fs;
 use std::process::Abort;
 use std::test::Fail;
 use tz_lines::{ReadError, read_leaps, read_zones};
-use tz_text::{Fields, Joined, amount, named, on, year};
+use tz_text::{Fields, Joined, amount, named, on, signed_number, year};
 use tz_types::Fault;
 
 /// A text in the compact spelling.
@@ -107,19 +108,44 @@ fn a_real_text_is_told_where_it_is_unbuilt(rt: HostRuntime) -> Result<(), Fail> 
     Ok(())
 }
 
+/// The moment that a comment of the leap table names, after `#expires`.
+fn expiry(text: &str) -> Option<i64> {
+    let line = text.lines().find(|line| line.starts_with("#expires "))?;
+    signed_number(line.split(' ').nth(1)?.as_bytes())
+}
+
+/// The leap table with the line of its expiry, which may stand in a comment.
+fn with_expiry(alloc: Global, text: &str) -> Result<Vec<u8>, AllocError> {
+    let mut whole = Vec::new(alloc);
+    for line in text.lines() {
+        let line = if line.starts_with("#Expires") {
+            &line[1..]
+        } else {
+            line
+        };
+        whole.extend_from_slice(line.as_bytes())?;
+        whole.push(b'\n')?;
+    }
+    Ok(whole)
+}
+
 #[test]
 fn a_real_leap_table_is_read(rt: HostRuntime) -> Result<(), Fail> {
     if !fs::exists(&rt, LEAPS)? {
         return Ok(());
     }
     let text = fs::read_to_string(&rt, LEAPS)?;
-    assert!(rt; text.len() <= 4_194_304);
     let lines = text
         .lines()
         .filter(|line| line.starts_with("Leap\t"))
         .count();
-    match read_leaps(rt.alloc(), text.as_bytes()) {
-        Ok(leaps) => assert_eq!(rt; leaps.dates.len(), lines),
+    let whole = with_expiry(rt.alloc(), text.as_str())?;
+    assert!(rt; whole.len() <= 4_194_304);
+    match read_leaps(rt.alloc(), whole.as_slice()) {
+        Ok(leaps) => {
+            assert_eq!(rt; leaps.entries.len(), lines);
+            assert_eq!(rt; leaps.expires, expiry(text.as_str()));
+        }
         Err(_) => assert!(rt; false, "{LEAPS} is refused"),
     }
     assert!(rt; lines > 0, "no leap second in {LEAPS}");

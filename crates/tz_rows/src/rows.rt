@@ -77,7 +77,7 @@ const INFO: [(&str, Status, &str); 27] = [
     ("", Status::Usage, "usage\n"),
 ];
 
-const CHECK: [(&str, Status, &str); 10] = [
+const CHECK: [(&str, Status, &str); 11] = [
     (
         "check E",
         Status::Ok,
@@ -100,9 +100,10 @@ const CHECK: [(&str, Status, &str); 10] = [
     ("check", Status::Usage, "usage\n"),
     ("check N N", Status::Usage, "usage\n"),
     ("Check N", Status::Usage, "usage\n"),
+    ("check X", Status::Text, "text 1 4\n"),
 ];
 
-const CLOCK: [(&str, Status, &str); 42] = [
+const CLOCK: [(&str, Status, &str); 62] = [
     ("clock L27 sys-utc 1483228800", Status::Ok, "1483228827\n"),
     ("clock L27 utc-info 1483228826", Status::Ok, "leap 27\n"),
     ("clock L27 utc-sys 1483228826", Status::Ok, "1483228799\n"),
@@ -161,6 +162,38 @@ const CLOCK: [(&str, Status, &str); 42] = [
         "leaps 2 24\n",
     ),
     ("clock L27 utc-utc 0", Status::Usage, "usage\n"),
+    ("clock M sys-utc 1483228800", Status::Ok, "1483228801\n"),
+    ("clock M utc-info 1483228800", Status::Ok, "leap 1\n"),
+    ("clock M sys-utc 1593561599", Status::Ok, "1593561600\n"),
+    ("clock M sys-utc 1593561600", Status::Ok, "1593561600\n"),
+    ("clock M utc-sys 1593561600", Status::Ok, "1593561600\n"),
+    ("clock M utc-sys 1593561599", Status::Ok, "1593561598\n"),
+    ("clock M utc-info 1593561599", Status::Ok, "plain 1\n"),
+    ("clock M utc-info 1593561600", Status::Ok, "plain 0\n"),
+    ("clock M utc-info 1609459199", Status::Ok, "plain 0\n"),
+    (
+        "clock M utc-info 1609459200",
+        Status::Ok,
+        "plain 0 expired\n",
+    ),
+    ("clock M utc-sys 253402300799", Status::Ok, "253402300799\n"),
+    ("clock M utc-sys 253402300800", Status::Range, "range\n"),
+    ("clock below utc-info 0", Status::Ok, "plain -2\n"),
+    ("clock below sys-utc 0", Status::Ok, "-2\n"),
+    ("clock below utc-sys -2", Status::Ok, "0\n"),
+    (
+        "clock below utc-sys 253402300797",
+        Status::Ok,
+        "253402300799\n",
+    ),
+    ("clock below utc-sys 253402300798", Status::Range, "range\n"),
+    (
+        "clock X utc-info 1609459200",
+        Status::Ok,
+        "plain 0 expired\n",
+    ),
+    ("clock expires sys-utc 0", Status::Text, "leaps 4 25\n"),
+    ("clock early sys-utc 0", Status::Text, "leaps 1 26\n"),
 ];
 
 /// The first and the last count in range of each conversion, each with the one past it.

@@ -66,8 +66,29 @@ Leap 2016 Dec 31 23:59:60 + S
 /// The same second twice.
 const TWICE: &str = "Leap 2016 Dec 31 23:59:60 + S\nLeap 2016 Dec 31 23:59:60 + S\n";
 
+/// A second is added before 2017, and one skipped before July 2020; the table expires with 2021.
+const SKIPPED: &str = "\
+Leap 2016 Dec 31 23:59:60 + S
+Leap 2020 Jun 30 23:59:59 - S
+Expires 2021 Jan 1 00:00:00
+";
+
+/// The same, and it expires once more.
+const EXPIRES_TWICE: &str = "\
+Leap 2016 Dec 31 23:59:60 + S
+Leap 2020 Jun 30 23:59:59 - S
+Expires 2021 Jan 1 00:00:00
+Expires 2021 Jan 1 00:00:00
+";
+
+/// A table that expires before its only leap second.
+const EARLY: &str = "Expires 2016 Dec 31 00:00:00\nLeap 2016 Dec 31 23:59:60 + S\n";
+
+/// Seconds are skipped alone, so that fewer than none were added.
+const BELOW: &str = "Leap 1969 Dec 31 23:59:59 - S\nLeap 1969 Dec 30 23:59:59 - S\n";
+
 /// Each text by the name that rows call it.
-pub const TEXTS: [(&str, &str); 19] = [
+pub const TEXTS: [(&str, &str); 24] = [
     ("N", TEXT_N),
     ("A", TEXT_A),
     ("D", TEXT_D),
@@ -87,4 +108,9 @@ pub const TEXTS: [(&str, &str); 19] = [
     ("corr", "Leap 2016 Dec 31 23:59:60 * S\n"),
     ("rolling", "Leap 2016 Dec 31 23:59:60 + R\n"),
     ("twice", TWICE),
+    ("M", SKIPPED),
+    ("expires", EXPIRES_TWICE),
+    ("early", EARLY),
+    ("below", BELOW),
+    ("X", "Expires 2021 Jan 1 00:00:00\n"),
 ];
