@@ -4,6 +4,10 @@
 //! follow a rule set aren't built yet.
 #![tactic(auto)]
 
+mod format;
+mod in_force;
 mod until;
 
+pub use format::abbreviation;
+pub use in_force::InForce;
 pub use until::until_instant;
