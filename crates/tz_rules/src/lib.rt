@@ -1,9 +1,13 @@
-//! When rules occur, and when the lines of a zone end.
+//! When rules occur, which occurrence is in effect at an instant, and when the lines of a zone end.
 //!
 //! The layer above uses `until_instant`, the instant at which a line with an UNTIL ends. Lines that
 //! follow a rule set aren't built yet.
 #![tactic(auto)]
 
+mod mark;
+mod rule_year;
+mod shift;
 mod until;
 
+pub use rule_year::occurrence;
 pub use until::until_instant;

@@ -1,24 +1,10 @@
 ghost use Rattle.std.specs.Prelude.{◌≡◌, pos, neg_ℤ, false, IsNone};
 ghost use Rattle.jiff_core.specs.Calendar.{IsBetween};
 ghost use Rattle.tz_types.specs.Amount.{IsShift};
-ghost use Rattle.tz_specs.specs.State.{shift};
 ghost use Rattle.tz_specs.specs.Until.{Fixed, until_instant};
 
-use tz_types::{AtKind, RuleSet, Until, nominal};
-
-/// How many seconds the clock that a time is read from is ahead of universal time.
-fn shift_of(kind: AtKind, stdoff: i64, save: i64) -> i64
-    requires stdoff_in { IsShift stdoff }
-    requires save_in { IsShift save }
-    ensures value { result ≡ shift kind stdoff save }
-    ensures bound { IsBetween (neg_ℤ (pos 172_800)) (pos 172_800) result }
-{
-    match kind {
-        AtKind::Universal => 0,
-        AtKind::Standard => stdoff,
-        AtKind::Wall => stdoff + save,
-    }
-}
+use crate::shift::shift_of;
+use tz_types::{RuleSet, Until, nominal};
 
 /// The instant of an UNTIL, in a line with the standard offset `stdoff`. Without a rule set the save is `fixed`.
 /// A line that follows a rule set isn't built yet.
