@@ -1,1 +1,3 @@
-pub mod Years
+pub mod YearBounds
+pub mod BeforeMark
+pub mod AfterMark

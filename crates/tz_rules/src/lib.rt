@@ -4,10 +4,13 @@
 //! follow a rule set aren't built yet.
 #![tactic(auto)]
 
+mod following;
 mod mark;
+mod preceding;
 mod rule_year;
 mod shift;
 mod until;
+mod years;
 
 pub use rule_year::occurrence;
 pub use until::until_instant;

@@ -9,15 +9,10 @@ ghost use Rattle.tz_rules.specs.Mark.{is_before, is_after, IsInReach};
 
 use crate::mark::Mark;
 use crate::shift::shift_of;
+use crate::years::{FIRST_YEAR, LAST_YEAR};
 use std::marker::Model;
 use std::sync::ledger::Ledger;
 use tz_types::{Rule, Steps, nominal};
-
-/// The first year in which rules occur.
-pub(crate) const FIRST_YEAR: i32 = -9998;
-
-/// The last year in which rules occur.
-pub(crate) const LAST_YEAR: i32 = 9998;
 
 /// The nominal second of a rule in a year: the seconds from 1970-01-01 00:00:00 on the clock that the rule's time is
 /// read from. None comes exactly where the year isn't one of the rule's, or isn't from -9998 to 9998.

@@ -1,7 +1,7 @@
 use Rattle.std.proofs.Common.{rules, arith, FitsSigned}
 use Rattle.std.specs.Int.{w32, w64}
 use Rattle.std.proofs.lemmas.Int.{ints, to_z-of_z}
-use Rattle.tz_rules.proofs.Years.{earliest_is}
+use Rattle.tz_rules.proofs.YearBounds.{earliest_is}
 use Rattle.tz_rules.proofs.mark.earliest_year.Goals as goal
 
 pub returns-clause-earliest : goal.returns-clause-earliest

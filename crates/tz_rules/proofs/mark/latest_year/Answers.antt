@@ -1,7 +1,7 @@
 use Rattle.std.proofs.Common.{rules, arith, FitsSigned}
 use Rattle.std.specs.Int.{w32, w64}
 use Rattle.std.proofs.lemmas.Int.{ints, to_z-of_z}
-use Rattle.tz_rules.proofs.Years.{latest_is}
+use Rattle.tz_rules.proofs.YearBounds.{latest_is}
 use Rattle.tz_rules.proofs.mark.latest_year.Goals as goal
 
 pub returns-clause-latest : goal.returns-clause-latest

@@ -1,6 +1,7 @@
 -- In which years occurrences near a second lie.
 use Rattle.std.proofs.Common.{◌≡◌, arith, refl, ℤ, pos, neg_ℤ, ◌+ℤ◌, ◌-ℤ◌, ◌*ℤ◌, ◌<ℤ◌, ◌≤ℤ◌}
-use Rattle.std.proofs.lemmas.Int.{by_lt_z}
+use Rattle.std.specs.Int.{int_max, int_min}
+use Rattle.std.proofs.lemmas.Int.{ints, by_lt_z, int_max_is, int_min_is}
 use Rattle.jiff_core.specs.Calendar.{days_from_civil, IsYear}
 use Rattle.jiff_core.proofs.SignedLemmas.{signed_arith}
 use Rattle.tz_types.specs.declared.calendar.Month.TheVariants as months
@@ -26,6 +27,14 @@ starts_rise year later low after =
 abbrev near_start : (rule : Rule) (year : ℤ) → OccursIn rule year → ((year_start year -ℤ pos 4_118_401) ≤ℤ nominal_second year rule.moment) × (nominal_second year rule.moment ≤ℤ (year_start (year +ℤ pos 1) +ℤ pos 4_118_401))
 near_start rule year occurs =
     nominal_near rule year (year +ℤ pos 1) occurs.year_in occurs.since occurs.through refl
+
+-- what occurs two years earlier comes earlier
+pub two_years_earlier : (rule other : Rule) (year later : ℤ) → OccursIn rule year → OccursIn other later → (year +ℤ pos 2) ≤ℤ later → nominal_second year rule.moment <ℤ nominal_second later other.moment
+two_years_earlier rule other year later here there apart =
+    let near = near_start rule year here in
+    let also = near_start other later there in
+    let starts = starts_apart (year +ℤ pos 1) later (omega (arith, signed_arith, here.year_in)) (omega (arith, signed_arith)) in
+    omega (arith, signed_arith, near.1, also.0, starts)
 
 pub latest_is : (second shifted latest : ℤ) → shifted ≡ (second +ℤ pos 4_118_401) → IsYear latest → LiesInYear shifted latest → IsLatestYear second latest
 latest_is second shifted latest is within lies =
@@ -62,3 +71,10 @@ earliest_is second shifted earliest is within lies =
           let before = lies.before in
           omega (arith, signed_arith, near.0, apart, before);
     }
+
+-- ---- the greater and the lesser of two years
+pub max_least : (year a b greater : ℤ) → greater ≡ int_max a b → a ≤ℤ year → b ≤ℤ year → greater ≤ℤ year
+max_least year a b greater is first second = omega (arith, ints, is, int_max_is a b)
+
+pub min_greatest : (year a b lesser : ℤ) → lesser ≡ int_min a b → year ≤ℤ a → year ≤ℤ b → year ≤ℤ lesser
+min_greatest year a b lesser is first second = omega (arith, ints, is, int_min_is a b)
