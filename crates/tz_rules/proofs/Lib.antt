@@ -1,1 +1,5 @@
+pub mod YearBounds
+pub mod BeforeMark
+pub mod AfterMark
 pub mod UntilLemmas
+pub mod LettersLemmas

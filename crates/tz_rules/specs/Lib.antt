@@ -1,2 +1,7 @@
+pub mod Placed
+pub mod Mark
+pub mod Search
 pub mod OffsetText
 pub mod Passed
+pub mod Letters
+pub mod Following
