@@ -1,3 +1,5 @@
 pub mod YearBounds
 pub mod BeforeMark
 pub mod AfterMark
+pub mod Instants
+pub mod EffectSearch

@@ -1,3 +1,4 @@
 pub mod Placed
 pub mod Mark
 pub mod Search
+pub mod InEffect

@@ -4,7 +4,9 @@
 //! follow a rule set aren't built yet.
 #![tactic(auto)]
 
+mod coming;
 mod following;
+mod in_effect;
 mod mark;
 mod preceding;
 mod rule_year;
