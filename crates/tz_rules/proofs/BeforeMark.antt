@@ -158,7 +158,7 @@ abbrev pub with_last : Option Placed → Option Placed → Option Placed
 with_last last None = last
 with_last last (Some found) = Some (later_of last found)
 
-own_stands : (set : RuleSet) (rule : Rule) (place : ℕ) (mark : Mark) (found : Placed) → slice_get set.rules place ≡ Some rule → LastOfRule rule place mark found → StandsIn set found × (is_before mark found.occurrence ≡ true)
+pub own_stands : (set : RuleSet) (rule : Rule) (place : ℕ) (mark : Mark) (found : Placed) → slice_get set.rules place ≡ Some rule → LastOfRule rule place mark found → StandsIn set found × (is_before mark found.occurrence ≡ true)
 own_stands set rule place mark found here is =
     let found_is : found.occurrence ≡ in_year rule found.occurrence.year = ap (λ (p : Placed). p.occurrence) is.is in
     let at : found.place ≡ place = ap (λ (p : Placed). p.place) is.is in
@@ -315,7 +315,7 @@ by_is_before : (second : ℤ) (mark : Mark) (occurrence : Occurrence) → mark.s
 by_is_before second mark occurrence is by =
     earlier_is_before mark occurrence (omega (arith, ints, is))
 
-before_is_by_second : (second : ℤ) (mark : Mark) (occurrence : Occurrence) → mark.second ≡ (second +ℤ pos 1) → mark.line ≡ 0 → is_before mark occurrence ≡ true → nominal_of occurrence ≤ℤ second
+pub before_is_by_second : (second : ℤ) (mark : Mark) (occurrence : Occurrence) → mark.second ≡ (second +ℤ pos 1) → mark.line ≡ 0 → is_before mark occurrence ≡ true → nominal_of occurrence ≤ℤ second
 before_is_by_second second mark occurrence is line before =
     ⊎_elim
     (λ (lt : int_lt (nominal_of occurrence) mark.second ≡ true).

@@ -1,5 +1,7 @@
+pub mod UntilLemmas
+pub mod LettersLemmas
 pub mod YearBounds
 pub mod BeforeMark
 pub mod AfterMark
-pub mod UntilLemmas
-pub mod LettersLemmas
+pub mod Instants
+pub mod EffectSearch

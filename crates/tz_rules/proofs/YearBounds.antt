@@ -24,7 +24,7 @@ starts_rise year later low after =
     (λ le. let same : year ≡ later = omega (arith, signed_arith) in rw same (omega (arith, signed_arith)))
 
 -- a rule's second in one of its years lies near that year
-abbrev near_start : (rule : Rule) (year : ℤ) → OccursIn rule year → ((year_start year -ℤ pos 4_118_401) ≤ℤ nominal_second year rule.moment) × (nominal_second year rule.moment ≤ℤ (year_start (year +ℤ pos 1) +ℤ pos 4_118_401))
+pub near_start : (rule : Rule) (year : ℤ) → OccursIn rule year → ((year_start year -ℤ pos 4_118_401) ≤ℤ nominal_second year rule.moment) × (nominal_second year rule.moment ≤ℤ (year_start (year +ℤ pos 1) +ℤ pos 4_118_401))
 near_start rule year occurs =
     nominal_near rule year (year +ℤ pos 1) occurs.year_in occurs.since occurs.through refl
 

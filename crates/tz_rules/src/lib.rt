@@ -5,8 +5,10 @@
 //! called.
 #![tactic(auto)]
 
+mod coming;
 mod following;
 mod format;
+mod in_effect;
 mod in_force;
 mod letters;
 mod mark;

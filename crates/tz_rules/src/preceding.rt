@@ -12,7 +12,7 @@ use tz_types::{Rule, RuleSet, Steps};
 
 /// The last occurrence of a rule before the mark, of the years from `since` on. `latest` is the last year in which one
 /// may lie there.
-fn last_of_rule<'a, L: Ledger>(
+pub(crate) fn last_of_rule<'a, L: Ledger>(
     rule: &'a Rule,
     place: usize,
     since: i32,
