@@ -8,11 +8,14 @@ mod coming;
 mod following;
 mod in_effect;
 mod mark;
+mod next_change;
 mod preceding;
 mod rule_year;
 mod shift;
+mod taken;
 mod until;
 mod years;
 
 pub use rule_year::occurrence;
+pub use taken::{Taken, last_at_or_before, next_after};
 pub use until::until_instant;
