@@ -5,3 +5,5 @@ pub mod BeforeMark
 pub mod AfterMark
 pub mod Instants
 pub mod EffectSearch
+pub mod ChangeSearch
+pub mod TakenLaws

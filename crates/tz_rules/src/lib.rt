@@ -12,9 +12,11 @@ mod in_effect;
 mod in_force;
 mod letters;
 mod mark;
+mod next_change;
 mod preceding;
 mod rule_year;
 mod shift;
+mod taken;
 mod until;
 #[cfg(test)]
 mod worked_rows;
@@ -24,4 +26,5 @@ pub use format::abbreviation;
 pub use in_force::InForce;
 pub use letters::letters_before;
 pub use rule_year::occurrence;
+pub use taken::{Taken, last_at_or_before, next_after};
 pub use until::until_instant;
