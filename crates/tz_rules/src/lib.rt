@@ -1,8 +1,8 @@
 //! When rules occur, which occurrence is in effect at an instant, and when the lines of a zone end.
 //!
-//! The layer above uses `until_instant`, the instant at which a line with an UNTIL ends, `InForce`, what is in force
-//! then, with `letters_before` for the time before any occurrence is in effect, and `abbreviation`, how that time is
-//! called.
+//! The layer above uses `last_at_or_before` and `next_after`, the occurrence in effect at an instant and the next change;
+//! `until_instant`, the instant at which a line with an UNTIL ends; `InForce`, what is in force, with `letters_before` for
+//! the time before any occurrence is in effect; and `abbreviation`, how that time is called.
 #![tactic(auto)]
 
 mod coming;
