@@ -17,7 +17,7 @@ pub(crate) struct Listed<'a> {
 }
 
 /// What both searches tell.
-type Told = (Option<Taken>, Option<Taken>);
+pub(crate) type Told = (Option<Taken>, Option<Taken>);
 
 /// The number from 1 of the next change where that one is the state, and 0 where nothing is to come: of those that
 /// come soonest the last.
@@ -66,11 +66,18 @@ fn told<L: Ledger>(set: &RuleSet, stdoff: i64, t: i64, blank: Blank) -> Told
     (last, next)
 }
 
+/// The same, where nobody asks for the count of steps.
+pub(crate) fn searched(set: &RuleSet, stdoff: i64, t: i64) -> Told
+    requires { IsShift stdoff }
+{
+    told::<Brand>(set, stdoff, t, Blank::new(1))
+}
+
 /// Whether both searches tell of an instant what the list says.
 pub(crate) fn agree(listed: Listed<'_>, stdoff: i64, t: i64) -> bool
     requires { IsShift stdoff }
 {
-    let (last, next) = told::<Brand>(listed.set, stdoff, t, Blank::new(1));
+    let (last, next) = searched(listed.set, stdoff, t);
     let state = state_at(listed.instants, t);
     is_number(listed, last, state) && is_number(listed, next, next_number(listed.instants, state))
 }

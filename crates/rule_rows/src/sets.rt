@@ -20,6 +20,15 @@ Rule S 1990 1995 - Oct Sun>=22 1:00u -1:00 -
 Rule S 1996 max - Oct lastSun 1:00u -1:00 -
 ";
 
+/// The Sunday on or after 31 October, in two years: the second lies in November.
+pub(crate) const LATE_OCTOBER: &str = "Rule S 2021 2022 - Oct Sun>=31 0:00u 1:00 X\n";
+
+/// An hour from April to October, read in local time.
+pub(crate) const APRIL_TO_OCTOBER: &str = "\
+Rule S 2000 max - Apr 1 2:00 1:00 D
+Rule S 2000 max - Oct 1 2:00 0 S
+";
+
 /// Saves of a whole day, with which each change overtakes others within a few days.
 pub(crate) const OVERTAKING: &str = "\
 Rule S 1980 1999 - Mar 1 0:00 24:00 A

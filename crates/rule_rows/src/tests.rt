@@ -1,15 +1,16 @@
 //! Each set under each standard offset, at instants around a dozen of its changes and far outside of time.
 ghost use Rattle.tz_types.specs.Amount.{IsShift};
 
-use crate::compared::{Listed, agree};
+use crate::compared::{Listed, Told, agree, searched};
 use crate::sets::{
-    EVERY_YEAR, FIRST_AND_LAST_YEARS, GAPS, IRELAND, ONE_SECOND, OVERTAKING, STRANGE_DAYS,
-    UNITED_STATES,
+    APRIL_TO_OCTOBER, EVERY_YEAR, FIRST_AND_LAST_YEARS, GAPS, IRELAND, LATE_OCTOBER, ONE_SECOND,
+    OVERTAKING, STRANGE_DAYS, UNITED_STATES,
 };
 use std::alloc::Global;
 use std::test::Fail;
 use tz_lines::read_zones;
 use tz_plain::{instants, occurrences};
+use tz_rules::Taken;
 use tz_types::{Db, RuleSet, TextError};
 
 /// Standard offsets, to both ends.
@@ -28,8 +29,13 @@ const FAR: [i64; 6] = [
     i64::MAX,
 ];
 
-/// About how many changes of a set are asked for.
-const CHANGES: usize = 40;
+/// About how many changes of a set are asked for, and of one with many, whose list is slow.
+const CHANGES: usize = 60;
+
+const CHANGES_OF_MANY: usize = 8;
+
+/// A set with more changes has many.
+const MANY: usize = 1_000;
 
 fn db_of(alloc: Global, text: &str) -> Result<Db, Fail> {
     if text.len() > 4_194_304 {
@@ -47,9 +53,14 @@ fn count(listed: Listed<'_>, stdoff: i64) -> (u32, u32)
 {
     let mut agreed: u32 = 0;
     let mut asked: u32 = 0;
-    let step = listed.instants.len() / CHANGES + 1;
+    let all = listed.instants.len();
+    let step = if all > MANY {
+        all / CHANGES_OF_MANY
+    } else {
+        all / CHANGES + 1
+    };
     for (place, change) in listed.instants.iter().enumerate() {
-        if place % step == 0 || place + 3 > listed.instants.len() {
+        if place % step == 0 || place + 3 > all {
             for distance in DISTANCES {
                 asked = asked.wrapping_add(1);
                 if agree(listed, stdoff, change.wrapping_add(distance)) {
@@ -122,5 +133,63 @@ fn sets_made_to_hurt_agree(rt: HostRuntime) -> Result<(), Fail> {
 fn sets_at_the_ends_of_time_agree(rt: HostRuntime) -> Result<(), Fail> {
     assert!(rt; all_agree(rt.alloc(), FIRST_AND_LAST_YEARS)? > 200);
     assert!(rt; all_agree(rt.alloc(), EVERY_YEAR)? > 200);
+    Ok(())
+}
+
+/// An occurrence as it is told: the place of its rule, its year and its instant.
+fn taken(rule: u32, year: i32, at: i64) -> Option<Taken> {
+    Some(Taken { rule, year, at })
+}
+
+/// Whether the searches tell this of a set.
+fn tells(alloc: Global, text: &str, stdoff: i64, rows: &[(i64, Told)]) -> Result<bool, Fail>
+    requires { IsShift stdoff }
+{
+    let db = db_of(alloc, text)?;
+    let Some(set) = db.sets.as_slice().first() else {
+        return Err(Fail::from(TextError));
+    };
+    for (t, told) in rows {
+        if searched(set.get(), stdoff, *t) != *told {
+            return Ok(false);
+        }
+    }
+    Ok(true)
+}
+
+#[test]
+fn changes_of_new_york(rt: HostRuntime) -> Result<(), Fail> {
+    let spring = taken(6, 2024, 1_710_054_000);
+    let rows = [
+        (1_710_053_999, (taken(7, 2023, 1_699_164_000), spring)),
+        (1_710_054_000, (spring, taken(7, 2024, 1_730_613_600))),
+        (-84_387_601, (None, taken(1, 1967, -84_387_600))),
+        (253_402_300_799, (taken(7, 9998, 253_365_516_000), None)),
+    ];
+    assert!(rt; tells(rt.alloc(), UNITED_STATES, -18_000, rows.as_slice())?);
+    Ok(())
+}
+
+#[test]
+fn changes_of_small_sets(rt: HostRuntime) -> Result<(), Fail> {
+    let first = taken(0, 2021, 1_635_638_400);
+    let october = [
+        (0, (None, first)),
+        (1_640_000_000, (first, taken(0, 2022, 1_667_692_800))),
+        (1_667_692_800, (taken(0, 2022, 1_667_692_800), None)),
+    ];
+    assert!(rt; tells(rt.alloc(), LATE_OCTOBER, 0, october.as_slice())?);
+    let summer = taken(0, 2010, 1_270_083_600);
+    let autumn = taken(1, 2010, 1_285_891_200);
+    let april = [
+        (1_285_891_199, (summer, autumn)),
+        (1_285_891_200, (autumn, taken(0, 2011, 1_301_619_600))),
+    ];
+    assert!(rt; tells(rt.alloc(), APRIL_TO_OCTOBER, 3600, april.as_slice())?);
+    let winter = [(
+        1_704_067_200,
+        (taken(3, 2023, 1_698_541_200), taken(0, 2024, 1_711_846_800)),
+    )];
+    assert!(rt; tells(rt.alloc(), IRELAND, 3600, winter.as_slice())?);
     Ok(())
 }

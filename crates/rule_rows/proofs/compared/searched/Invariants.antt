@@ -1,4 +1,4 @@
-use Rattle.rule_rows.proofs.compared.agree.Given as goal
+use Rattle.rule_rows.proofs.compared.searched.Given as goal
 
 -- nothing is counted: the ledger is the one that is handed over
 abbrev pub ghosts-told : goal.ghosts-told
