@@ -1,3 +1,5 @@
+pub mod UntilLemmas
+pub mod LettersLemmas
 pub mod YearBounds
 pub mod BeforeMark
 pub mod AfterMark

@@ -23,7 +23,7 @@ use Rattle.tz_specs.proofs.StateLemmas.{by_get, state_has_come, later_has_not_co
 use Rattle.tz_specs.proofs.OccurrenceLemmas.{In-occurrences, In-occurrences_back, occurrences_strict, occurrences_places, occurrences_ordered, occurrences_differ}
 
 -- ---- instants by place
-abbrev HasSave : ℤ → List Occurrence → ℕ → ℤ → Type 0
+abbrev pub HasSave : ℤ → List Occurrence → ℕ → ℤ → Type 0
 HasSave save list zero v = v ≡ save
 HasSave save list (suc place) v = (previous : Occurrence) × (slice_get list place ≡ Some previous) × (v ≡ previous.rule.save)
 
@@ -118,7 +118,7 @@ save_from_place set zero occurrence v there has = inl (has, first_at set occurre
 save_from_place set (suc place) occurrence v there has =
     inr (has.0, previous_at set place has.0 occurrence has.1 there, has.2)
 
-place_from_save : (set : RuleSet) (place : ℕ) (occurrence : Occurrence) (v : ℤ) → slice_get (occurrences set) place ≡ Some occurrence → HasSaveBefore set occurrence v → HasSave (pos 0) (occurrences set) place v
+pub place_from_save : (set : RuleSet) (place : ℕ) (occurrence : Occurrence) (v : ℤ) → slice_get (occurrences set) place ≡ Some occurrence → HasSaveBefore set occurrence v → HasSave (pos 0) (occurrences set) place v
 place_from_save set zero occurrence v there has =
     ⊎_elim (λ (first : (v ≡ pos 0) × IsFirst set occurrence). first.0)
     (λ (later : (previous : Occurrence) × IsPrevious set previous occurrence × (v ≡ previous.rule.save)).
@@ -134,7 +134,7 @@ place_from_save set (suc place) occurrence v there has =
     (later.0, previous_is set place later.0 occurrence later.1 there, later.2))
     has
 
-same_save : (save : ℤ) (list : List Occurrence) (place : ℕ) (v w : ℤ) → HasSave save list place v → HasSave save list place w → v ≡ w
+pub same_save : (save : ℤ) (list : List Occurrence) (place : ℕ) (v w : ℤ) → HasSave save list place v → HasSave save list place w → v ≡ w
 same_save save list zero v w first second = first ∙ sym second
 same_save save list (suc place) v w first second =
     let same : first.0 ≡ second.0 = same_Some first.0 second.0 (sym first.1 ∙ second.1) in
@@ -239,7 +239,7 @@ takes_from_effect set stdoff instant occurrence comes effect =
     (here.0, place_comes_at set stdoff here.0 occurrence instant here.1 comes, state_from_in_effect set stdoff instant here.0 occurrence here.1 effect)
 
 -- ---- how far an instant lies from its nominal second
-shift_near : (kind : AtKind) (stdoff save : ℤ) → IsShift stdoff → IsShift save → IsWithin 172_800 (shift kind stdoff save)
+pub shift_near : (kind : AtKind) (stdoff save : ℤ) → IsShift stdoff → IsShift save → IsWithin 172_800 (shift kind stdoff save)
 shift_near kinds.Universal stdoff save here there = (omega (arith, ints), omega (arith, ints))
 shift_near kinds.Standard stdoff save here there = (omega (arith, ints, here), omega (arith, ints, here))
 shift_near kinds.Wall stdoff save here there = (omega (arith, ints, here, there), omega (arith, ints, here, there))

@@ -14,6 +14,10 @@ pub mod EffectLemmas
 pub mod UntilLemmas
 pub mod AroundLemmas
 pub mod OffsetLemmas
+pub mod YearLemmas
+pub mod UntilTimeLemmas
+pub mod BeforeLemmas
+pub mod RulesFollowedLemmas
 pub mod Heads
 pub mod Standing
 pub mod LeapLemmas

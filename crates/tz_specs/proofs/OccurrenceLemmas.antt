@@ -24,7 +24,7 @@ rule_years_is : (count : ℕ) → 19_997 ≡ count → rule_years ≡ map year_n
 unfolding rule_years
 rule_years_is count e = ap (λ (n : ℕ). map year_number (range_with_len 0 n)) e
 
-natural_of : (z : ℤ) → pos 0 ≤ℤ z → (n : ℕ) × (pos n ≡ z)
+pub natural_of : (z : ℤ) → pos 0 ≤ℤ z → (n : ℕ) × (pos n ≡ z)
 natural_of (pos n) h = (n, refl)
 natural_of (negsuc n) h = absurd (omega (arith, ints))
 

@@ -91,7 +91,7 @@ abs_small (negsuc n) h = (omega (arith, ints), omega (arith, ints))
 set_small : (sets : List RuleSet) (place : ℕ) → HasSmallSave (following_of sets (rules.Set place))
 set_small sets place = by_get sets place (λ set there. rw there tt) (λ gone. rw gone tt)
 
-following_small : (sets : List RuleSet) (line_rules : LineRules) → IsTrue (is_fixed_save line_rules) → HasSmallSave (following_of sets line_rules)
+pub following_small : (sets : List RuleSet) (line_rules : LineRules) → IsTrue (is_fixed_save line_rules) → HasSmallSave (following_of sets line_rules)
 following_small sets rules.Plain small = tt
 following_small sets (rules.Fixed save daylight) small = abs_small save (leb-true (unsigned_abs save) 86_400 small)
 following_small sets (rules.Set place) small = set_small sets place

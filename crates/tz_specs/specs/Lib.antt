@@ -6,11 +6,14 @@ pub mod Word
 pub mod Number
 pub mod Amount
 pub mod Day
+pub mod CivilYear
 pub mod Occurrence
 pub mod State
 pub mod Until
+pub mod Before
 pub mod Abbreviation
 pub mod Expansion
+pub mod RulesFollowed
 pub mod Sound
 pub mod Cover
 pub mod Local

@@ -3,6 +3,9 @@
 #![tactic(auto)]
 
 mod around_laws;
+mod before_laws;
+mod calendar_laws;
+mod clock_laws;
 mod cover_laws;
 mod effect_laws;
 mod expansion_laws;
@@ -11,14 +14,19 @@ mod leap_laws;
 mod local_laws;
 mod occurrence_laws;
 mod range_laws;
+mod rules_followed_laws;
 mod state_laws;
 mod text_laws;
+mod until_laws;
 mod zone_laws;
 
 pub use around_laws::{
     lines_follow_one_another, next_change_takes_effect, range_around_an_instant,
     range_of_a_line_is_found,
 };
+pub use before_laws::standard_time_is_in_force_before_any_occurrence;
+pub use calendar_laws::instant_lies_in_one_year;
+pub use clock_laws::{lines_end_on_the_clocks_of_their_untils, occurrences_come_on_their_clocks};
 pub use cover_laws::{
     cuts_rise, each_instant_has_one_range, leading_is_following_one_another, ranges_cover_time,
     ranges_stand_in_order,
@@ -43,6 +51,8 @@ pub use range_laws::{
     cuts_are_where_occurrences_take_effect, expansion_is_ranges_of_lines,
     ranges_run_from_cut_to_cut,
 };
+pub use rules_followed_laws::most_rules_followed_is_the_greatest;
 pub use state_laws::{state_holds_at_its_instant, state_is_last_come};
 pub use text_laws::{at_most_one_database, at_most_one_fault, read_texts_are_not_refused};
+pub use until_laws::{greater_untils_end_no_earlier, untils_lie_inside_time};
 pub use zone_laws::sound_zones_tell_all_times;
