@@ -1,7 +1,7 @@
 //! What comes next after an instant. All occurrences after the one in effect come later, though not always in their
 //! order: a later one may come sooner, if it lies within four days of the first on its own clock. Each rule has one
 //! occurrence in these days at most.
-ghost use Rattle.std.specs.Prelude.{◌≡◌, ◌+◌, ◌*◌, ◌<◌, ◌≤◌, ◌+ℤ◌, pos, length, true};
+ghost use Rattle.std.specs.Prelude.{◌≡◌, ◌↔◌, ◌+◌, ◌*◌, ◌<◌, ◌≤◌, ◌+ℤ◌, pos, length, IsTrue};
 ghost use Rattle.jiff_core.specs.Calendar.{IsYear};
 ghost use Rattle.tz_types.specs.Amount.{IsShift};
 ghost use Rattle.tz_types.specs.declared.rule_set.RuleSet.{RuleSet};
@@ -69,7 +69,7 @@ fn window_from(mark: Mark, first: &RuleYear<'_>) -> Window
 
 /// Whether the two are one occurrence.
 fn is_same(occurrence: &RuleYear<'_>, other: &RuleYear<'_>) -> bool
-    ensures { result ≡ true → (occurrence.now.place ≡ other.now.place) × (occurrence.now.occurrence.year ≡ other.now.occurrence.year) }
+    ensures { IsTrue result ↔ ((occurrence.now.place ≡ other.now.place) × (occurrence.now.occurrence.year ≡ other.now.occurrence.year)) }
 {
     occurrence.place() == other.place() && occurrence.year() == other.year()
 }

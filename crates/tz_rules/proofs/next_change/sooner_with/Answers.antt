@@ -28,7 +28,7 @@ pub returns-then-is_same-clause-soonest : goal.returns-then-is_same-clause-soone
 returns-then-is_same-clause-soonest g c =
     let rule = c.index-as_slice-place.result in
     let here = rule_at c.args.set.now c.as_slice.result.now c.args.place rule c.as_slice.ensures c.requires.place_in c.index-as_slice-place.is in
-    sooner_same c.args.set.now c.args.stdoff c.args.window c.args.place rule c.in-Some.found c.args.soonest c.requires.stdoff_in c.requires.window here c.in-Some.ensures.first c.requires.so_far (c.is_same.ensures c.if-is_same.true)
+    sooner_same c.args.set.now c.args.stdoff c.args.window c.args.place rule c.in-Some.found c.args.soonest c.requires.stdoff_in c.requires.window here c.in-Some.ensures.first c.requires.so_far (c.is_same.ensures.0 c.if-is_same.true)
 
 pub returns-else-is_same-clause-soonest : goal.returns-else-is_same-clause-soonest
 returns-else-is_same-clause-soonest g c =
