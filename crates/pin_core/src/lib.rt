@@ -1,0 +1,12 @@
+//! The list of versions as plain values: its journal, and what the journal replays to.
+//!
+//! `Book` is the list of one thread. It holds the journal of what was pushed and erased, and always equals that
+//! journal's replay. The definitions in `specs/` are what every layer above means by a version's number, its slot,
+//! the front and a position. The crate stands on `tz_types` for the names of versions.
+#![tactic(auto)]
+
+mod listed;
+mod write;
+
+pub use listed::Listed;
+pub use write::{Change, Write};
