@@ -46,21 +46,22 @@ greatest_below number listed = greatest (filter (λ other. nat_lt other number) 
 
 -- a push is allowed with the number after the front's, into a slot of the list that isn't listed; an erase is
 -- allowed after a listed version, of the greatest listed number below it
-abbrev pub allowed : ListState → Write → Bool
-allowed state write = allows write.change
-  where
-    allows : Change → Bool
-    allows (Push n src slot) = (n == (front_of state.listed).n + 1) && nat_lt slot (length state.kept) && not (is_slot_listed slot state.listed)
-    allows (Erase after gone) = is_listed after state.listed && nat_lt 0 gone && (gone == greatest_below after state.listed)
+abbrev pub allowed : ListState → Change → Bool
+allowed state (Push n src slot) =
+    (n == (front_of state.listed).n + 1) && nat_lt slot (length state.kept) && not (is_slot_listed slot state.listed)
+allowed state (Erase after gone) =
+    is_listed after state.listed && nat_lt 0 gone && (gone == greatest_below after state.listed)
 
 -- a push lists its version first, and its slot then keeps that number; an erase takes a version off the list, and
 -- leaves what slots keep
+abbrev pub after_change : ListState → Change → ListState
+after_change state (Push n src slot) =
+    record { listed = record { n = n; src = src; slot = slot } ∷ state.listed; kept = slice_set state.kept slot n }
+after_change state (Erase after gone) =
+    record { listed = filter (λ edition. not (edition.n == gone)) state.listed; kept = state.kept }
+
 abbrev pub after_write : ListState → Write → ListState
-after_write state write = changed write.change
-  where
-    changed : Change → ListState
-    changed (Push n src slot) = record { listed = record { n = n; src = src; slot = slot } ∷ state.listed; kept = slice_set state.kept slot n }
-    changed (Erase after gone) = record { listed = filter (λ edition. not (edition.n == gone)) state.listed; kept = state.kept }
+after_write state write = after_change state write.change
 
 -- the list after all writes of the journal, in a list of so many slots
 abbrev pub state_after : ℕ → List Write → ListState
@@ -69,7 +70,7 @@ state_after slots journal = fold after_write (opening slots) journal
 -- each of these writes is allowed in the state after those before it
 abbrev pub replays_from : ListState → List Write → Bool
 replays_from state [] = true
-replays_from state (write ∷ later) = allowed state write && replays_from (after_write state write) later
+replays_from state (write ∷ later) = allowed state write.change && replays_from (after_write state write) later
 
 -- the journal replays from the opening
 abbrev pub replays : ℕ → List Write → Bool
