@@ -1,3 +1,4 @@
 pub mod Replay
+pub mod Pushes
 pub mod Sequence
 pub mod Names
