@@ -1,2 +1,4 @@
 pub mod ListLemmas
 pub mod ReplayLemmas
+pub mod SequenceLemmas
+pub mod BehindLemmas
