@@ -1,5 +1,5 @@
 -- The version behind another in the list.
-use Rattle.std.proofs.Common.{◌≡◌, ℕ, zero, suc, ◌+◌, ◌<◌, ◌≤◌, max, Bool, true, false, not, cond, eqb, ltb, List, [], ◌∷◌, ◌++◌, length, map, filter, get_or, take, drop, remove, refl, sym, ap, ◌∙◌, arith}
+use Rattle.std.proofs.Common.{◌≡◌, ℕ, zero, suc, ◌+◌, ◌<◌, ◌≤◌, max, Bool, true, false, not, cond, eqb, ltb, List, [], ◌∷◌, ◌++◌, length, map, filter, get_or, take, drop, remove, refl, sym, ap, ◌∙◌, subst, arith}
 use Rattle.std.proofs.lemmas.Bool.{cond-true, cond-false, ne_eqb, eq-eqb, lt-ltb, le-ltb, not_from_false, not_from_true}
 use Rattle.pin_core.specs.Replay.{Edition, greatest, greatest_below}
 use Rattle.pin_core.proofs.ListLemmas.{Stands, greatest_less}
@@ -62,15 +62,19 @@ listed_at bound (suc place) kept (e ∷ es) d stands within =
 pub behind : (bound top place : ℕ) (kept : List ℕ) (es : List Edition) (d : Edition) → Stands bound kept es → place < length es → (get_or es place d).n ≡ top → IsBehind top es place
 behind bound top place kept [] d stands within here = absurd (omega arith)
 behind bound top zero kept (e ∷ []) d stands within here =
-    let below : greatest_below top (e ∷ []) ≡ 0 = rw (← here) (below_first bound kept e [] stands) in
+    let same : e.n ≡ top = here in
+    let below : greatest_below top (e ∷ []) ≡ 0 =
+    subst (λ number. greatest_below number (e ∷ []) ≡ 0) same (below_first bound kept e [] stands) in
     record { next = λ f short. absurd (omega arith); none = λ long. below; rest = λ short. absurd (omega arith) }
 behind bound top zero kept (e ∷ f ∷ fs) d stands within here =
     let first : greatest (map (λ edition. edition.n) (f ∷ fs)) ≡ f.n =
     omega (arith, greatest_bounded f.n kept fs stands.4.0 stands.4.4) in
-    let below : greatest_below top (e ∷ f ∷ fs) ≡ f.n = rw (← here) (below_first bound kept e (f ∷ fs) stands ∙ first) in
+    let same : e.n ≡ top = here in
+    let below : greatest_below top (e ∷ f ∷ fs) ≡ f.n =
+    subst (λ number. greatest_below number (e ∷ f ∷ fs) ≡ f.n) same (below_first bound kept e (f ∷ fs) stands ∙ first) in
     let left : filter (λ edition. not (eqb edition.n f.n)) (e ∷ f ∷ fs) ≡ e ∷ fs =
     higher_stays f.n e (f ∷ fs) stands.4.1 ∙ ap (λ xs. e ∷ xs) (it_goes f fs ∙ lower_stay f.n f.n kept fs stands.4.4 (omega arith)) in
-    record { next = λ g short. sym below; none = λ long. absurd (omega arith); rest = λ short. rw below (sym left) }
+    record { next = λ g short. sym below; none = λ long. absurd (omega arith); rest = λ short. subst (λ gone. remove (e ∷ f ∷ fs) 1 ≡ filter (λ edition. not (eqb edition.n gone)) (e ∷ f ∷ fs)) (sym below) (sym left) }
 behind bound top (suc place) kept (e ∷ es) d stands within here =
     let later = behind e.n top place kept es d stands.4 (omega arith) here in
     let low = listed_at e.n place kept es d stands.4 (omega arith) in
@@ -80,5 +84,5 @@ behind bound top (suc place) kept (e ∷ es) d stands within here =
     record {
       next = λ g short. later.next g (omega arith) ∙ sym same;
       none = λ long. same ∙ later.none (omega arith);
-      rest = λ short. rw same (ap (λ xs. e ∷ xs) (later.rest (omega arith)) ∙ sym (higher_stays (greatest_below top es) e es high));
+      rest = λ short. subst (λ gone. remove (e ∷ es) (suc (suc place)) ≡ filter (λ edition. not (eqb edition.n gone)) (e ∷ es)) (sym same) (ap (λ xs. e ∷ xs) (later.rest (omega arith)) ∙ sym (higher_stays (greatest_below top es) e es high));
     }

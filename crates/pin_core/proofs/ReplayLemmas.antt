@@ -41,7 +41,7 @@ pub record Orderly (slots pushed : ℕ) (state : ListState) : Type 0 where
   pub stands : Stands (pushed + 2) state.kept state.listed
   pub bounded : (slot : ℕ) → get_or state.kept slot 0 ≤ pushed + 1
 
-zeros_below : (slots slot : ℕ) → slice_index (replicate slots 0) slot ≡ 0
+pub zeros_below : (slots slot : ℕ) → slice_index (replicate slots 0) slot ≡ 0
 zeros_below slots slot =
     ⊎_elim (λ (lt : slot < slots). get_or-replicate {A = ℕ} slots slot 0 0 lt)
     (λ (le : slots ≤ slot). get_or_past {X = ℕ} (replicate slots 0) slot 0 (rw (length-replicate {A = ℕ} slots 0) le))

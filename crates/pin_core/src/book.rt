@@ -143,6 +143,13 @@ impl Book {
         }
     }
 
+    /// The number of the next version.
+    fn next_number(&self) -> u32
+        ensures { result ≡ (front_of (list_of self.now).listed).n + 1 }
+    {
+        self.standing.listed()[0].n + 1
+    }
+
     /// Lists the next version before all others, made of this source and put in this slot, as a write of the reader of
     /// number `by`. Answers the version's number.
     pub fn push(&mut self, by: u32, src: u32, name: VersionText, slot: u32) -> u32
@@ -153,7 +160,7 @@ impl Book {
         ensures write { self.new ≡ record self.old { journal = self.old.journal ++ record { by = by; seq = next_seq by self.old.journal; change = changes.Push result src slot } ∷ []; names = self.old.names ++ name ∷ [] } }
         ensures book { IsBook self.new }
     {
-        let n = self.standing.listed()[0].n + 1;
+        let n = self.next_number();
         self.journal.add(by, Change::Push { n, src, slot });
         self.names.push_reserved(name.copied());
         self.standing.put_first(Listed { n, src, slot, name });
