@@ -4,3 +4,4 @@ pub mod SequenceLemmas
 pub mod BehindLemmas
 pub mod BookLemmas
 pub mod KeptLemmas
+pub mod LawLemmas

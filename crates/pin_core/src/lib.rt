@@ -10,6 +10,7 @@ mod book;
 mod journal;
 mod limits;
 mod listed;
+mod replay_laws;
 mod standing;
 mod write;
 
@@ -17,6 +18,11 @@ pub use after_error::AfterError;
 pub use book::Book;
 pub use limits::{FEWEST_SLOTS, MOST_SLOTS, MOST_WRITES, READER_NUMBERS};
 pub use listed::Listed;
+pub use replay_laws::{
+    each_position_replays, erase_takes_the_next, front_is_never_erased, listed_is_kept,
+    listed_is_pushed_and_not_erased, listed_numbers_fall, pushes_are_numbered_in_order,
+    slots_keep_what_was_pushed_last,
+};
 pub use write::{Change, Write};
 
 #[cfg(test)]
