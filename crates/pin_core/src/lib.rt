@@ -5,8 +5,12 @@
 //! the front and a position. The crate stands on `tz_types` for the names of versions.
 #![tactic(auto)]
 
+mod entry;
 mod listed;
+mod view;
 mod write;
 
+pub use entry::{Entry, SlotWord};
 pub use listed::Listed;
+pub use view::{Role, View};
 pub use write::{Change, Write};
