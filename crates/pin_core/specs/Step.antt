@@ -1,6 +1,6 @@
 -- The steps of the protocol: when each is allowed, and what it leaves. A step of one of seven kinds is made by a reader
 -- that is out, and changes one word and what that reader's seat knows. A split and a join change two seats.
-use Rattle.std.specs.Prelude.{◌≡◌, ◌≢◌, ℕ, ◌+◌, ◌-◌, ◌<◌, ◌≤◌, Bool, true, false, not, nat_lt, ◌==◌, if◌then◌else◌, is_some, Option, Some, None, List, [], ◌∷◌, ◌++◌, length, filter, replicate, slice_set}
+use Rattle.std.specs.Prelude.{◌≡◌, ◌≢◌, ℕ, ◌+◌, ◌-◌, ◌<◌, ◌≤◌, Bool, true, false, not, nat_lt, ◌==◌, if◌then◌else◌, is_some, Option, Some, None, List, [], ◌∷◌, ◌++◌, length, filter, replicate, slice_get, slice_set}
 use Rattle.std.specs.List.{remove, range_with_len}
 use mathlib.Core.Option.{some}
 use lib.ListN.{get_elem?}
@@ -56,16 +56,22 @@ add_pin s id v =
     record (with_view s id (pinned s.slots (number_at s.words slot) v)) { words = with_count s.words slot (count_at s.words slot + 1) }
 
 -- ---- 3: take a pin off ----
--- Allowed for each entry that the reader has: it goes by its place among them.
+
+-- the reader has this entry, in this place among its entries
+pub record MayTake (place : ℕ) (e : Entry) (v : View) : Type 0 where
+  pub there : slice_get v.entries place ≡ Some e
 
 abbrev pub unpinned : ℕ → View → View
-unpinned i v = record v { entries = remove v.entries i }
+unpinned place v = record v { entries = remove v.entries place }
 
 abbrev pub take_pin : CoreState → ℕ → View → ℕ → Entry → CoreState
-take_pin s id v i e = record (with_view s id (unpinned i v)) { words = with_count s.words e.slot (count_at s.words e.slot - 1) }
+take_pin s id v place e = record (with_view s id (unpinned place v)) { words = with_count s.words e.slot (count_at s.words e.slot - 1) }
 
 -- ---- 4: exchange the turn word from nobody ----
--- Allowed where the reader hasn't the turn.
+
+-- the reader hasn't the turn
+pub record MayTakeTurn (v : View) : Type 0 where
+  pub idle : v.turn ≡ false
 
 -- it has the turn now, has seen the whole journal, and names no slot as found pinned
 abbrev pub got_turn : List Write → View → View
