@@ -1,6 +1,8 @@
 -- When a state is lawful. Each part stands alone and can be read alone. Each is one of three kinds: a sum over all
 -- seats, a fact of each seat against what is shared, or a fact of what is shared alone.
 use Rattle.std.specs.Prelude.{◌≡◌, ◌≢◌, ℕ, ◌+◌, ◌*◌, ◌≤◌, ◌<◌, Bool, true, false, ◌==◌, if◌then◌else◌, is_some, Option, Some, None, List, [], ◌∷◌, length, take, All}
+use mathlib.Core.Option.{some}
+use lib.ListN.{get_elem?}
 use Rattle.pin_core.specs.declared.write.Write.{Write}
 use Rattle.pin_core.specs.declared.entry.Entry.{Entry}
 use Rattle.pin_core.specs.declared.entry.SlotWord.{SlotWord}
@@ -12,9 +14,10 @@ use Rattle.pin_core.specs.Core.{CoreState, Front, front_number, front_slot, kept
 
 -- ---- (a) the pins ----
 
--- the count in each slot's word is the number of pins of all readers at that slot
-abbrev pub CountsPins : CoreState → Type 0
-CountsPins s = (slot : ℕ) → slot < s.slots → count_at s.words slot ≡ total (pins_at slot) s.views
+-- the count in each slot's word is the number of pins of all readers at that slot; a spent seat has none
+pub record CountsPins (s : CoreState) : Type 0 where
+  pub counts : (slot : ℕ) → slot < s.slots → count_at s.words slot ≡ total (pins_at slot) s.views
+  pub spent : (id : ℕ) (v : View) → get_elem? s.views id ≡ some v → v.role ≡ roles.Spent → v.entries ≡ []
 
 -- ---- (b) the handles ----
 
@@ -27,14 +30,15 @@ abbrev pub IsKept : ℕ → List Write → (ℕ → ℕ) → Entry → Type 0
 IsKept slots journal shown e = e.held ≡ true → shown e.slot ≡ entry_number slots journal e
 
 -- the same for each entry of the seat
-pub record KeepsHandles (slots : ℕ) (journal : List Write) (shown : ℕ → ℕ) (v : View) : Type 0 where
-  pub kept : All (IsKept slots journal shown) v.entries
+abbrev pub KeepsHandles : ℕ → List Write → (ℕ → ℕ) → View → Type 0
+KeepsHandles slots journal shown v = All (IsKept slots journal shown) v.entries
 
 -- ---- (c) the journal ----
 
--- the journal replays, the front word tells the front after it, and each slot's word shows the number that the slot
--- keeps after it, but for a slot that is claimed
+-- there is a slot, the journal replays, the front word tells the front after it, and each slot's word shows the number
+-- that the slot keeps after it, but for a slot that is claimed
 pub record FollowsJournal (s : CoreState) : Type 0 where
+  pub some_slot : 0 < s.slots
   pub replay : replays s.slots s.journal ≡ true
   pub front : s.front ≡ record { w = length s.journal; n = front_number s.slots s.journal; slot = front_slot s.slots s.journal }
   pub wide : length s.words ≡ s.slots
@@ -53,9 +57,9 @@ pub record KnowsTurn (slots : ℕ) (journal : List Write) (shown : ℕ → ℕ) 
   pub coming : (slot : ℕ) → v.claimed ≡ Some slot → shown slot ≡ front_number slots journal + 1
 
 -- the same for each seat; and one seat has the turn where the turn word names a reader, else none
-pub record HasOneTurn (s : CoreState) : Type 0 where
-  pub one : total has_turn s.views ≡ one_if (is_some s.turn)
-  pub each : EachSeat (KnowsTurn s.slots s.journal (number_at s.words) s.turn) s.views
+pub record HasOneTurn (slots : ℕ) (journal : List Write) (shown : ℕ → ℕ) (turn : Option ℕ) (views : List View) : Type 0 where
+  pub one : total has_turn views ≡ one_if (is_some turn)
+  pub each : EachSeat (KnowsTurn slots journal shown turn) views
 
 -- ---- (e) the numbers and the writes ----
 
@@ -73,13 +77,13 @@ pub record KnowsWrites (readers : ℕ) (journal : List Write) (v : View) : Type 
 
 -- each reader number belongs to exactly one seat, one seat is the main's, each write is by a reader number, and those
 -- by one number bear 1, 2, 3 and so on
-pub record HasOneOwner (s : CoreState) : Type 0 where
-  pub numbers : (number : ℕ) → number < s.readers → total (has_number number) s.views ≡ 1
-  pub whole : total number_count s.views ≡ s.readers
-  pub main : total is_main s.views ≡ 1
-  pub writers : All (λ (write : Write). write.by < s.readers) s.journal
-  pub counted : IsCounted s.journal
-  pub each : EachSeat (KnowsWrites s.readers s.journal) s.views
+pub record HasOneOwner (readers : ℕ) (journal : List Write) (views : List View) : Type 0 where
+  pub numbers : (number : ℕ) → number < readers → total (has_number number) views ≡ 1
+  pub whole : total number_count views ≡ readers
+  pub main : total is_main views ≡ 1
+  pub writers : All (λ (write : Write). write.by < readers) journal
+  pub counted : IsCounted journal
+  pub each : EachSeat (KnowsWrites readers journal) views
 
 -- ---- (f) the positions ----
 
@@ -115,8 +119,8 @@ pub record Lawful (s : CoreState) : Type 0 where
   pub pins : CountsPins s
   pub handles : EachSeat (KeepsHandles s.slots s.journal (number_at s.words)) s.views
   pub follows : FollowsJournal s
-  pub turn : HasOneTurn s
-  pub owners : HasOneOwner s
+  pub turn : HasOneTurn s.slots s.journal (number_at s.words) s.turn s.views
+  pub owners : HasOneOwner s.readers s.journal s.views
   pub places : EachSeat (KnowsPlaces s.slots s.journal s.floor) s.views
   pub room : LeavesRoom s
   pub few : EachSeat (λ v. length v.entries ≤ 8 * length v.numbers) s.views
