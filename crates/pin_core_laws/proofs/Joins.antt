@@ -1,0 +1,1 @@
+-- A join keeps states lawful.
