@@ -13,6 +13,13 @@ module _ {A : Type 0} where
   at_set (x ∷ xs) (suc i) zero a b e = inr ((λ h. omega arith), e)
   at_set (x ∷ xs) (suc i) (suc j) a b e = ⊎_elim (λ t. inl (ap suc t.0, t.1)) (λ t. let n = t.0 in inr ((λ h. n (omega arith)), t.1)) (at_set xs i j a b e)
 
+  pub set_else : (l : List A) (i j : ℕ) (a : A) → j ≢ i → get_elem? (set l i a) j ≡ get_elem? l j
+  set_else [] i j a n = refl
+  set_else (x ∷ xs) zero zero a n = absurd (n refl)
+  set_else (x ∷ xs) zero (suc j) a n = refl
+  set_else (x ∷ xs) (suc i) zero a n = refl
+  set_else (x ∷ xs) (suc i) (suc j) a n = set_else xs i j a (λ e. n (ap suc e))
+
   pub at_push : (l : List A) (a b : A) (j : ℕ) → get_elem? (l ++ a ∷ []) j ≡ some b → (get_elem? l j ≡ some b) ⊎ (a ≡ b)
   at_push [] a b zero e = inr (some-injective a b e)
   at_push [] a b (suc j) e = absurd (some-ne-none b (sym e))

@@ -5,7 +5,8 @@
 mod step_laws;
 
 pub use step_laws::{
-    a_claim_keeps_states_lawful, a_load_keeps_states_lawful, a_pin_keeps_states_lawful,
-    a_pin_taken_off_keeps_states_lawful, a_store_keeps_states_lawful,
-    a_turn_given_back_keeps_states_lawful, an_exchange_of_the_turn_keeps_states_lawful,
+    a_claim_keeps_states_lawful, a_join_keeps_states_lawful, a_load_keeps_states_lawful,
+    a_pin_keeps_states_lawful, a_pin_taken_off_keeps_states_lawful, a_split_keeps_states_lawful,
+    a_store_keeps_states_lawful, a_turn_given_back_keeps_states_lawful,
+    an_exchange_of_the_turn_keeps_states_lawful,
 };
