@@ -5,12 +5,23 @@
 //! the front and a position. The crate stands on `tz_types` for the names of versions.
 #![tactic(auto)]
 
+mod after_error;
+mod book;
 mod entry;
+mod journal;
+mod limits;
 mod listed;
+mod standing;
 mod view;
 mod write;
 
+pub use after_error::AfterError;
+pub use book::Book;
 pub use entry::{Entry, SlotWord};
+pub use limits::{FEWEST_SLOTS, MOST_SLOTS, MOST_WRITES, READER_NUMBERS};
 pub use listed::Listed;
 pub use view::{Role, View};
 pub use write::{Change, Write};
+
+#[cfg(test)]
+mod tests;

@@ -1,4 +1,5 @@
 //! A row of the list.
+ghost use Rattle.std.specs.Prelude.{◌≡◌};
 
 use tz_types::VersionText;
 
@@ -9,4 +10,18 @@ pub struct Listed {
     pub src: u32,
     pub slot: u32,
     pub name: VersionText,
+}
+
+impl Listed {
+    /// The same row again, without an allocation.
+    pub fn copied(&self) -> Self
+        ensures { result ≡ self.now }
+    {
+        Listed {
+            n: self.n,
+            src: self.src,
+            slot: self.slot,
+            name: self.name.copied(),
+        }
+    }
 }
