@@ -4,3 +4,14 @@ pub mod SequenceLemmas
 pub mod BehindLemmas
 pub mod BookLemmas
 pub mod KeptLemmas
+pub mod Sums
+pub mod Journals
+pub mod Seats
+pub mod Words
+pub mod Loads
+pub mod Pins
+pub mod Turns
+pub mod Claims
+pub mod Stores
+pub mod Splits
+pub mod Joins

@@ -12,6 +12,7 @@ mod journal;
 mod limits;
 mod listed;
 mod standing;
+mod step_laws;
 mod view;
 mod write;
 
@@ -20,6 +21,12 @@ pub use book::Book;
 pub use entry::{Entry, SlotWord};
 pub use limits::{FEWEST_SLOTS, MOST_SLOTS, MOST_WRITES, READER_NUMBERS};
 pub use listed::Listed;
+pub use step_laws::{
+    a_claim_keeps_states_lawful, a_join_keeps_states_lawful, a_load_keeps_states_lawful,
+    a_pin_keeps_states_lawful, a_pin_taken_off_keeps_states_lawful, a_split_keeps_states_lawful,
+    a_store_keeps_states_lawful, a_turn_given_back_keeps_states_lawful,
+    an_exchange_of_the_turn_keeps_states_lawful,
+};
 pub use view::{Role, View};
 pub use write::{Change, Write};
 

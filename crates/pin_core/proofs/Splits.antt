@@ -14,8 +14,8 @@ use Rattle.pin_core.specs.Sequence.{writes_by}
 use Rattle.pin_core.specs.Core.{CoreState, number_at, count_at, total, one_if, times, has_number, number_count, is_main, mains, pins_at, has_claimed, has_turn, allowance_of, EachSeat}
 use Rattle.pin_core.specs.Lawful.{Lawful, IsKept, WasFront, WasFrontOnce, KnowsPlaces, KnowsWrites}
 use Rattle.pin_core.specs.Step.{MaySplit, floor_after, left_over, split_off, split}
-use Rattle.pin_core_laws.proofs.Sums.{at_set, at_push, total-set, total-append, terms_le}
-use Rattle.pin_core_laws.proofs.Stores.{all_pass}
+use Rattle.pin_core.proofs.Sums.{at_set, at_push, total-set, total-append, terms_le}
+use Rattle.pin_core.proofs.Stores.{all_pass}
 
 -- ---- the numbers and the writes of one number, and the others ----
 

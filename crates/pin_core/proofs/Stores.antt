@@ -17,38 +17,18 @@ use Rattle.pin_core.specs.Sequence.{writes_by, counts_from, IsCounted}
 use Rattle.pin_core.specs.Core.{CoreState, front_number, front_slot, kept_number, is_taken, number_at, count_at, total, one_if, times, has_number, number_count, is_main, pins_at, claims, has_claimed, has_turn, allowance_of, IsReader}
 use Rattle.pin_core.specs.Lawful.{Lawful, IsKept, WasFront, WasFrontOnce, KnowsTurn, KnowsWrites, KnowsPlaces, KeepsHandles}
 use Rattle.pin_core.specs.Step.{HasReader, MayStore, HasClaimed, claimed_after, stored, front_after, store_front}
-use Rattle.pin_core_laws.proofs.Sums.{total_kept, total-set, terms_le}
-use Rattle.pin_core_laws.proofs.Journals.{replays_push, pushed, erased}
-use Rattle.pin_core_laws.proofs.Seats.{each_set, is_live, idle, owners_kept, spent_kept}
-use Rattle.pin_core_laws.proofs.Loads.{seen_within}
+use Rattle.pin_core.proofs.Sums.{total_kept, total-set, terms_le}
+use Rattle.pin_core.proofs.SequenceLemmas.{writes_by_other, counted_push}
+use Rattle.pin_core.proofs.Journals.{replays_push, pushed, erased}
+use Rattle.pin_core.proofs.Seats.{each_set, is_live, idle, owners_kept, spent_kept}
+use Rattle.pin_core.proofs.Loads.{seen_within}
 
 -- ---- the writes of each number after one more ----
-
--- a write by another number is none of this one's
-pub writes_else : (number : ℕ) (journal : List Write) (write : Write) → write.by ≢ number → writes_by number (journal ++ write ∷ []) ≡ writes_by number journal
-writes_else number journal write else =
-    filter-append (λ (w : Write). w.by == number) journal (write ∷ []) ∙ ap (λ (l : List Write). writes_by number journal ++ l) (cond-false (write.by == number) (write ∷ []) [] (ne_eqb write.by number else)) ∙ append-nil (writes_by number journal)
-
-pub writes_here : (number : ℕ) (journal : List Write) (write : Write) → write.by ≡ number → writes_by number (journal ++ write ∷ []) ≡ writes_by number journal ++ write ∷ []
-writes_here number journal write here =
-    filter-append (λ (w : Write). w.by == number) journal (write ∷ []) ∙ ap (λ (l : List Write). writes_by number journal ++ l) (cond-true (write.by == number) (write ∷ []) [] (eq-eqb write.by number here))
 
 -- the same writes of a number in two journals stay the same with one write more
 same_writes : (number : ℕ) (xs ys : List Write) (write : Write) → writes_by number xs ≡ writes_by number ys → writes_by number (xs ++ write ∷ []) ≡ writes_by number (ys ++ write ∷ [])
 same_writes number xs ys write same =
     filter-append (λ (w : Write). w.by == number) xs (write ∷ []) ∙ ap (λ (l : List Write). l ++ writes_by number (write ∷ [])) same ∙ sym (filter-append (λ (w : Write). w.by == number) ys (write ∷ []))
-
-counts-push : (before : ℕ) (xs : List Write) (write : Write) → counts_from before xs ≡ true → write.seq ≡ before + length xs + 1 → counts_from before (xs ++ write ∷ []) ≡ true
-counts-push before [] write is seq = and_from (write.seq == before + 1) true (eq-eqb write.seq (before + 1) (omega arith)) refl
-counts-push before (x ∷ xs) write is seq = let both = and_parts (x.seq == before + 1) (counts_from (before + 1) xs) is in
-    and_from (x.seq == before + 1) (counts_from (before + 1) (xs ++ write ∷ [])) both.0 (counts-push (before + 1) xs write both.1 (omega arith))
-
--- the next write of a number leaves the journal counted
-counted_push : (journal : List Write) (write : Write) → IsCounted journal → write.seq ≡ length (writes_by write.by journal) + 1 → IsCounted (journal ++ write ∷ [])
-counted_push journal write counted seq number =
-    ⊎_elim (λ (here : write.by ≡ number). subst (λ (l : List Write). counts_from 0 l ≡ true) (sym (writes_here number journal write here))
-    (counts-push 0 (writes_by number journal) write (counted number) (let same = ap (λ n. length (writes_by n journal)) here in omega arith)))
-    (λ (else : write.by ≢ number). subst (λ (l : List Write). counts_from 0 l ≡ true) (sym (writes_else number journal write else)) (counted number)) (cases_eq write.by number)
 
 -- all of a list pass, so the filter leaves the list
 pub all_pass : (p : Write → Bool) (xs : List Write) → All (λ (w : Write). p w ≡ true) xs → filter p xs ≡ xs
@@ -173,8 +153,8 @@ stores s id number v write h has may =
               main = f.main;
               inside = f.inside;
               seen = take-append-le (length u.seen) s.journal (write ∷ []) (within u f) ∙ f.seen;
-              own = λ r one. f.own r one ∙ sym (writes_else r s.journal write (else r one));
-              told = λ r one. f.told r one ∙ sym (writes_else r s.journal write (else r one));
+              own = λ r one. f.own r one ∙ sym (writes_by_other r s.journal write (else r one));
+              told = λ r one. f.told r one ∙ sym (writes_by_other r s.journal write (else r one));
               only = f.only;
             });
       };

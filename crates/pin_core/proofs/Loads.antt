@@ -11,8 +11,8 @@ use Rattle.pin_core.specs.Sequence.{writes_by}
 use Rattle.pin_core.specs.Core.{CoreState, total, pins_at, has_number, number_count, has_turn, has_claimed, is_main, allowance_of}
 use Rattle.pin_core.specs.Lawful.{Lawful, WasFront}
 use Rattle.pin_core.specs.Step.{HasReader, loaded, load_front}
-use Rattle.pin_core_laws.proofs.Sums.{total_kept}
-use Rattle.pin_core_laws.proofs.Seats.{each_set, is_live, owners_kept, spent_kept}
+use Rattle.pin_core.proofs.Sums.{total_kept}
+use Rattle.pin_core.proofs.Seats.{each_set, is_live, owners_kept, spent_kept}
 
 -- a seen journal is no longer than the journal
 pub seen_within : (journal seen : List Write) → take (length seen) journal ≡ seen → length seen ≤ length journal

@@ -15,10 +15,10 @@ use Rattle.pin_core.specs.declared.view.Role.TheVariants as roles
 use Rattle.pin_core.specs.Core.{CoreState, front_number, front_slot, is_taken, number_at, count_at, total, one_if, pins_at, claims, has_claimed, has_turn, allowance_of, IsReader}
 use Rattle.pin_core.specs.Lawful.{Lawful, IsKept, WasFront, WasFrontOnce, KnowsTurn, KeepsHandles}
 use Rattle.pin_core.specs.Step.{HasReader, MayClaim, claiming, claim_slot, with_number, found_pinned, miss_slot, claim}
-use Rattle.pin_core_laws.proofs.Sums.{total_kept, total-set, total_none, total_some, term_le}
-use Rattle.pin_core_laws.proofs.Words.{count_here, count_else, number_here, number_else}
-use Rattle.pin_core_laws.proofs.Seats.{each_set, is_live, idle, owners_kept, spent_kept}
-use Rattle.pin_core_laws.proofs.Loads.{seen_within}
+use Rattle.pin_core.proofs.Sums.{total_kept, total-set, total_none, total_some, term_le}
+use Rattle.pin_core.proofs.Words.{count_here, count_else, number_here, number_else}
+use Rattle.pin_core.proofs.Seats.{each_set, is_live, idle, owners_kept, spent_kept}
+use Rattle.pin_core.proofs.Loads.{seen_within}
 
 -- where no entry is at the slot, each entry is elsewhere
 elsewhere : (slot : ℕ) (entries : List Entry) → total (λ (e : Entry). one_if (e.slot == slot)) entries ≡ 0 → All (λ (e : Entry). e.slot ≢ slot) entries

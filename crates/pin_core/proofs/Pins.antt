@@ -16,10 +16,10 @@ use Rattle.pin_core.specs.declared.view.View.{View}
 use Rattle.pin_core.specs.Core.{CoreState, front_number, front_slot, number_at, count_at, total, one_if, pins_at, has_claimed, has_turn, allowance_of, held_count, stray_count, IsReader}
 use Rattle.pin_core.specs.Lawful.{Lawful, IsKept, WasFront, KnowsTurn, HasOneTurn, KeepsHandles}
 use Rattle.pin_core.specs.Step.{HasReader, MayPin, MayTake, new_entry, pinned, with_count, add_pin, unpinned, take_pin}
-use Rattle.pin_core_laws.proofs.Sums.{total_kept, total-set, total-append, total-remove, term_le}
-use Rattle.pin_core_laws.proofs.Journals.{front_slot_inside, replays_take}
-use Rattle.pin_core_laws.proofs.Words.{numbers_kept, count_here, count_else}
-use Rattle.pin_core_laws.proofs.Seats.{each_set, is_live, owners_kept, spent_kept}
+use Rattle.pin_core.proofs.Sums.{total_kept, total-set, total-append, total-remove, term_le}
+use Rattle.pin_core.proofs.Journals.{front_slot_inside, replays_take}
+use Rattle.pin_core.proofs.Words.{numbers_kept, count_here, count_else}
+use Rattle.pin_core.proofs.Seats.{each_set, is_live, owners_kept, spent_kept}
 
 -- each entry is held or a stray
 held_or_stray : (entries : List Entry) → total (λ (e : Entry). one_if e.held) entries + total (λ (e : Entry). one_if (not e.held)) entries ≡ length entries

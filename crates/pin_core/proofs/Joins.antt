@@ -15,8 +15,8 @@ use Rattle.pin_core.specs.Sequence.{writes_by}
 use Rattle.pin_core.specs.Core.{CoreState, total, one_if, times, has_number, number_count, is_main, mains, pins_at, claims, has_claimed, has_turn, allowance_of, EachSeat}
 use Rattle.pin_core.specs.Lawful.{Lawful, WasFront, WasFrontOnce}
 use Rattle.pin_core.specs.Step.{MayJoin, taken_in, spent, join}
-use Rattle.pin_core_laws.proofs.Sums.{at_set, set_else, total-set, total-append, terms_le}
-use Rattle.pin_core_laws.proofs.Splits.{inside_of}
+use Rattle.pin_core.proofs.Sums.{at_set, set_else, total-set, total-append, terms_le}
+use Rattle.pin_core.proofs.Splits.{inside_of}
 
 -- ---- the writes of a number in longer parts of a journal ----
 

@@ -9,7 +9,7 @@ use Rattle.std.specs.Prelude.{Option, is_some}
 use Rattle.pin_core.specs.declared.write.Write.{Write}
 use Rattle.pin_core.specs.Core.{total, one_if, times, mains, has_number, number_count, has_turn, is_main, EachSeat, IsReader}
 use Rattle.pin_core.specs.Lawful.{HasOneTurn, HasOneOwner, KnowsWrites}
-use Rattle.pin_core_laws.proofs.Sums.{at_set, terms_le, one_if-le, total_kept}
+use Rattle.pin_core.proofs.Sums.{at_set, terms_le, one_if-le, total_kept}
 
 -- each seat has P', where the one that is set has it, and each other one
 pub each_set : (P : View → Type 0) (views : List View) (id : ℕ) (w : View) → P w → ((j : ℕ) (u : View) → j ≢ id → get_elem? views j ≡ some u → u.role ≢ roles.Spent → P u) → EachSeat P (set views id w)

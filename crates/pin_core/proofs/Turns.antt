@@ -12,9 +12,9 @@ use Rattle.pin_core.specs.declared.view.View.{View}
 use Rattle.pin_core.specs.Core.{CoreState, total, one_if, pins_at, has_claimed, has_turn, allowance_of, IsReader}
 use Rattle.pin_core.specs.Lawful.{Lawful, WasFront, WasFrontOnce, KnowsTurn}
 use Rattle.pin_core.specs.Step.{HasReader, MayTakeTurn, MayGive, got_turn, was_refused, take_turn, miss_turn, exchange_turn, gave_turn, give_turn}
-use Rattle.pin_core_laws.proofs.Sums.{total_kept, total-set, total_none, one_if-le}
-use Rattle.pin_core_laws.proofs.Seats.{each_set, is_live, idle, owners_kept, spent_kept}
-use Rattle.pin_core_laws.proofs.Loads.{seen_within}
+use Rattle.pin_core.proofs.Sums.{total_kept, total-set, total_none, one_if-le}
+use Rattle.pin_core.proofs.Seats.{each_set, is_live, idle, owners_kept, spent_kept}
+use Rattle.pin_core.proofs.Loads.{seen_within}
 
 -- a turn word that names nobody names somebody, if anything does
 none_is : (turn : Option ℕ) → is_some turn ≡ false → turn ≡ None

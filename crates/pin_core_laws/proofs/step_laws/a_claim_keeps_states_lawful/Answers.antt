@@ -1,5 +1,0 @@
-use Rattle.pin_core_laws.proofs.Claims.{claims_keep}
-use Rattle.pin_core_laws.proofs.step_laws.a_claim_keeps_states_lawful.Goals as goal
-
-pub returns : goal.returns
-returns c = claims_keep

@@ -1,5 +1,0 @@
-use Rattle.pin_core_laws.proofs.Stores.{stores}
-use Rattle.pin_core_laws.proofs.step_laws.a_store_keeps_states_lawful.Goals as goal
-
-pub returns : goal.returns
-returns c = stores
