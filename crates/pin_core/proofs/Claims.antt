@@ -32,18 +32,16 @@ claims_free s id number v slot h has may free =
     let next : ℕ = front_number s.slots s.journal + 1 in let new : SlotWord = record { number = next; count = 0 } in let words : List SlotWord = set s.words slot new in
     let wide = h.follows.wide in let inside = may.inside in let within : slot < length s.words = omega arith in
     let others : (j : ℕ) (u : View) → j ≢ id → get_elem? s.views j ≡ some u → u.turn ≢ true = λ j u other there. idle s.slots s.journal _ s.turn s.views h.turn id j v u here may.turn other there in
-    let unpinned : total (pins_at slot) s.views ≡ 0 = sym (h.pins.counts slot inside) ∙ free in
+    let unpinned : total (pins_at slot) s.views ≡ 0 = sym (h.pins slot inside) ∙ free in
     let kept : (j : ℕ) (u : View) → get_elem? s.views j ≡ some u → KeepsHandles s.slots s.journal (number_at s.words) u → KeepsHandles s.slots s.journal (number_at words) u =
     λ j u there handles k d low held. let apart = elsewhere slot u.entries (total_none (pins_at slot) s.views j u unpinned there) k d low in
     number_else s.words slot new (get_or u.entries k d).slot apart ∙ handles k d low held in
     let mine : (j : ℕ) → Some slot ≡ Some j → j ≡ slot = λ j e. cc in
     record {
-      pins = record {
-        counts = λ j low. let same = total_kept (pins_at j) s.views id v w here refl in let before = h.pins.counts j low in
-            ⊎_elim (λ (e : j ≡ slot). let now = count_here s.words slot new within in let here = ap (count_at words) e in let old = ap (count_at s.words) e in omega arith)
-            (λ (n : j ≢ slot). let now = count_else s.words slot new j n in omega arith) (cases_eq j slot);
-        spent = spent_kept s.views id w live h.pins.spent;
-      };
+      pins = λ j low. let same = total_kept (pins_at j) s.views id v w here refl in let before = h.pins j low in
+          ⊎_elim (λ (e : j ≡ slot). let now = count_here s.words slot new within in let here = ap (count_at words) e in let old = ap (count_at s.words) e in omega arith)
+          (λ (n : j ≢ slot). let now = count_else s.words slot new j n in omega arith) (cases_eq j slot);
+      spent = spent_kept s.views id w live h.spent;
       handles = each_set (KeepsHandles s.slots s.journal (number_at words)) s.views id w (kept id v here (h.handles id v here live)) (λ j u _ there lives. kept j u there (h.handles j u there lives));
       follows = record {
         some_slot = h.follows.some_slot;
@@ -109,18 +107,16 @@ pub claims_pinned : (s : CoreState) (id number : ℕ) (v : View) (slot : ℕ) �
 claims_pinned s id number v slot h has may some_pin =
     let here = has.here in let live = is_live number v has.reader in let w : View = found_pinned slot v in
     let turn = h.turn.each id v here live in let writes = h.owners.each id v here live in let places = h.places id v here live in
-    let counted = h.pins.counts slot may.inside in
+    let counted = h.pins slot may.inside in
     let seat = total_some (pins_at slot) s.views (omega arith) in
-    let lives : seat.1.role ≢ roles.Spent = λ spent. let none = ap (total (λ (e : Entry). one_if (e.slot == slot))) (h.pins.spent seat.0 seat.1 seat.2 spent) in let more = seat.3 in omega arith in
+    let lives : seat.1.role ≢ roles.Spent = λ spent. let none = ap (pins_at slot) (h.spent seat.0 seat.1 seat.2 spent) in let more = seat.3 in omega arith in
     let theirs = h.places seat.0 seat.1 seat.2 lives in
     let told = seen_within s.journal seat.1.seen (h.owners.each seat.0 seat.1 seat.2 lives).seen in
     let found = entry_there slot seat.1.entries seat.3 (WasFront s.slots s.journal s.floor (length seat.1.seen)) theirs.entries in
     let once : WasFrontOnce s.slots s.journal s.floor slot = (let was = found.2.told in (found.0.position, found.2.late, omega arith, sym found.1 ∙ found.2.front)) in
     record {
-      pins = record {
-        counts = λ slot inside. h.pins.counts slot inside ∙ sym (total_kept (pins_at slot) s.views id v w here refl);
-        spent = spent_kept s.views id w live h.pins.spent;
-      };
+      pins = λ slot inside. h.pins slot inside ∙ sym (total_kept (pins_at slot) s.views id v w here refl);
+      spent = spent_kept s.views id w live h.spent;
       handles = each_set _ s.views id w (h.handles id v here live) (λ j u _ there. h.handles j u there);
       follows = record {
         some_slot = h.follows.some_slot;

@@ -12,9 +12,9 @@ use Rattle.pin_core.specs.declared.write.Write.{Write}
 use Rattle.pin_core.specs.declared.view.View.{View}
 use Rattle.pin_core.specs.declared.view.Role.TheVariants as roles
 use Rattle.pin_core.specs.Sequence.{writes_by}
-use Rattle.pin_core.specs.Core.{CoreState, total, one_if, times, has_number, number_count, is_main, mains, pins_at, claims, has_claimed, has_turn, allowance_of, EachSeat}
+use Rattle.pin_core.specs.Core.{CoreState, total, one_if, times, has_number, number_count, is_main, mains, pins_at, claims, has_claimed, has_turn, allowance_of, spent, EachSeat}
 use Rattle.pin_core.specs.Lawful.{Lawful, WasFront, WasFrontOnce}
-use Rattle.pin_core.specs.Step.{MayJoin, taken_in, spent, join}
+use Rattle.pin_core.specs.Step.{MayJoin, taken_in, join}
 use Rattle.pin_core.proofs.Sums.{at_set, set_else, total-set, total-append, terms_le}
 use Rattle.pin_core.proofs.Splits.{inside_of}
 
@@ -95,12 +95,10 @@ joins s id v other w h here there may =
     (λ (x : (has_number r v ≡ 1) × (has_number r w ≡ 0)). all_in_longer r s.journal (length v.seen) (length l) long_v (ap (writes_by r) knows.seen ∙ knows.told r x.0))
     (λ (x : (has_number r v ≡ 0) × (has_number r w ≡ 1)). all_in_longer r s.journal (length w.seen) (length l) long_w (ap (writes_by r) knows_w.seen ∙ knows_w.told r x.1)) (one_of r one) in
     record {
-      pins = record {
-        counts = λ slot low. h.pins.counts slot low ∙ sym (total_join (pins_at slot) s.views id other v w both apart here there (let none = no_pins slot in omega arith) refl);
-        spent = λ j u at is. ⊎_elim (λ (x : (j ≡ other) × (spent ≡ u)). ap (λ (y : View). y.entries) (sym x.1))
-            (λ (x : (j ≢ other) × (get_elem? (set s.views id both) j ≡ some u)). ⊎_elim (λ (y : (j ≡ id) × (both ≡ u)). absurd (live (ap (λ (z : View). z.role) y.1 ∙ is))) (λ (y : (j ≢ id) × (get_elem? s.views j ≡ some u)). h.pins.spent j u y.1 is) (at_set s.views id j both u x.1))
-            (at_set (set s.views id both) other j spent u at);
-      };
+      pins = λ slot low. h.pins slot low ∙ sym (total_join (pins_at slot) s.views id other v w both apart here there (let none = no_pins slot in omega arith) refl);
+      spent = λ j u at is. ⊎_elim (λ (x : (j ≡ other) × (spent ≡ u)). sym x.1)
+          (λ (x : (j ≢ other) × (get_elem? (set s.views id both) j ≡ some u)). ⊎_elim (λ (y : (j ≡ id) × (both ≡ u)). absurd (live (ap (λ (z : View). z.role) y.1 ∙ is))) (λ (y : (j ≢ id) × (get_elem? s.views j ≡ some u)). h.spent j u y.1 is) (at_set s.views id j both u x.1))
+          (at_set (set s.views id both) other j spent u at);
       handles = each_join _ s.views id other both (h.handles id v here live) (λ j u _ _ at. h.handles j u at);
       follows = record {
         some_slot = h.follows.some_slot;

@@ -24,10 +24,8 @@ loads s id number v h has =
     let turn = h.turn.each id v here live in let writes = h.owners.each id v here live in let places = h.places id v here live in
     let within = seen_within s.journal v.seen writes.seen in
     record {
-      pins = record {
-        counts = λ slot inside. h.pins.counts slot inside ∙ sym (total_kept (pins_at slot) s.views id v w here refl);
-        spent = spent_kept s.views id w live h.pins.spent;
-      };
+      pins = λ slot inside. h.pins slot inside ∙ sym (total_kept (pins_at slot) s.views id v w here refl);
+      spent = spent_kept s.views id w live h.spent;
       handles = each_set _ s.views id w (h.handles id v here live) (λ j u _ there. h.handles j u there);
       follows = record {
         some_slot = h.follows.some_slot;

@@ -48,13 +48,11 @@ pins s id number v h has may =
     let within : slot < length s.words = omega arith in
     let pins_after : (j : ℕ) → pins_at j w ≡ pins_at j v + one_if (slot == j) = λ j. omega (arith, total-append (λ (e : Entry). one_if (e.slot == j)) v.entries (new ∷ [])) in
     record {
-      pins = record {
-        counts = λ j low. let sum = total-set (pins_at j) s.views id v w here in let before = h.pins.counts j low in let more = pins_after j in
-            ⊎_elim (λ (e : j ≡ slot). let one = ap one_if (eq-eqb slot j (sym e)) in let now = count_here s.words slot record { number = number_at s.words slot; count = count } within in
-            let same = ap (count_at words) e in let old = ap (count_at s.words) e in omega arith)
-            (λ (n : j ≢ slot). let zero = ap one_if (ne_eqb slot j (λ e. n (sym e))) in let now = count_else s.words slot record { number = number_at s.words slot; count = count } j n in omega arith) (cases_eq j slot);
-        spent = spent_kept s.views id w live h.pins.spent;
-      };
+      pins = λ j low. let sum = total-set (pins_at j) s.views id v w here in let before = h.pins j low in let more = pins_after j in
+          ⊎_elim (λ (e : j ≡ slot). let one = ap one_if (eq-eqb slot j (sym e)) in let now = count_here s.words slot record { number = number_at s.words slot; count = count } within in
+          let same = ap (count_at words) e in let old = ap (count_at s.words) e in omega arith)
+          (λ (n : j ≢ slot). let zero = ap one_if (ne_eqb slot j (λ e. n (sym e))) in let now = count_else s.words slot record { number = number_at s.words slot; count = count } j n in omega arith) (cases_eq j slot);
+      spent = spent_kept s.views id w live h.spent;
       handles = each_set (KeepsHandles s.slots s.journal (number_at words)) s.views id w
           (subst (λ f. KeepsHandles s.slots s.journal f w) shown (All-push (IsKept s.slots s.journal (number_at s.words)) v.entries new (h.handles id v here live)
           (λ held. eqb-true (number_at s.words slot) (front_number s.slots v.seen) held ∙ ap (front_number s.slots) (sym journal_is))))
@@ -117,14 +115,12 @@ unpins s id number v at e h has may =
     let pins_before : (j : ℕ) → pins_at j w + one_if (slot == j) ≡ pins_at j v = λ j. let one = ap (λ (x : Entry). one_if (x.slot == j)) is in
     let sum = total-remove (λ (x : Entry). one_if (x.slot == j)) v.entries at e among in omega arith in
     record {
-      pins = record {
-        counts = λ j low. let sum = total-set (pins_at j) s.views id v w here in let before = h.pins.counts j low in let less = pins_before j in
-            let part = term_le (pins_at j) s.views id v here in
-            ⊎_elim (λ (c : j ≡ slot). let one = ap one_if (eq-eqb slot j (sym c)) in let now = count_here s.words slot record { number = number_at s.words slot; count = count } within in
-            let same = ap (count_at words) c in let old = ap (count_at s.words) c in omega arith)
-            (λ (n : j ≢ slot). let zero = ap one_if (ne_eqb slot j (λ c. n (sym c))) in let now = count_else s.words slot record { number = number_at s.words slot; count = count } j n in omega arith) (cases_eq j slot);
-        spent = spent_kept s.views id w live h.pins.spent;
-      };
+      pins = λ j low. let sum = total-set (pins_at j) s.views id v w here in let before = h.pins j low in let less = pins_before j in
+          let part = term_le (pins_at j) s.views id v here in
+          ⊎_elim (λ (c : j ≡ slot). let one = ap one_if (eq-eqb slot j (sym c)) in let now = count_here s.words slot record { number = number_at s.words slot; count = count } within in
+          let same = ap (count_at words) c in let old = ap (count_at s.words) c in omega arith)
+          (λ (n : j ≢ slot). let zero = ap one_if (ne_eqb slot j (λ c. n (sym c))) in let now = count_else s.words slot record { number = number_at s.words slot; count = count } j n in omega arith) (cases_eq j slot);
+      spent = spent_kept s.views id w live h.spent;
       handles = each_set (KeepsHandles s.slots s.journal (number_at words)) s.views id w
           (subst (λ f. KeepsHandles s.slots s.journal f w) shown (All-remove (IsKept s.slots s.journal (number_at s.words)) v.entries at (h.handles id v here live)))
           (λ j u _ there lives. subst (λ f. KeepsHandles s.slots s.journal f u) shown (h.handles j u there lives));

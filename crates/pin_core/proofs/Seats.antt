@@ -8,7 +8,7 @@ use Rattle.pin_core.specs.declared.view.Role.TheVariants as roles
 use Rattle.std.specs.Prelude.{Option, is_some}
 use Rattle.pin_core.specs.declared.write.Write.{Write}
 use Rattle.pin_core.specs.Core.{total, one_if, times, mains, has_number, number_count, has_turn, is_main, EachSeat, IsReader}
-use Rattle.pin_core.specs.Lawful.{HasOneTurn, HasOneOwner, KnowsWrites}
+use Rattle.pin_core.specs.Lawful.{HasOneTurn, HasOneOwner, KnowsWrites, SpentKnowNothing}
 use Rattle.pin_core.proofs.Sums.{at_set, terms_le, one_if-le, total_kept}
 
 -- each seat has P', where the one that is set has it, and each other one
@@ -38,8 +38,7 @@ owners_kept readers journal views id v w h at numbers role mine = record {
   each = each_set _ views id w mine (λ j u _ there. h.each j u there);
 }
 
--- a spent seat has no pin, where the seat that is set isn't spent
-pub spent_kept : (views : List View) (id : ℕ) (w : View) → w.role ≢ roles.Spent → ((j : ℕ) (u : View) → get_elem? views j ≡ some u → u.role ≡ roles.Spent → u.entries ≡ [])
-    → (j : ℕ) (u : View) → get_elem? (set views id w) j ≡ some u → u.role ≡ roles.Spent → u.entries ≡ []
+-- a spent seat knows nothing, where the seat that is set isn't spent
+pub spent_kept : (views : List View) (id : ℕ) (w : View) → w.role ≢ roles.Spent → SpentKnowNothing views → SpentKnowNothing (set views id w)
 spent_kept views id w live h j u at spent =
     ⊎_elim (λ (x : (j ≡ id) × (w ≡ u)). absurd (live (ap (λ (y : View). y.role) x.1 ∙ spent))) (λ (x : (j ≢ id) × (get_elem? views j ≡ some u)). h j u x.1 spent) (at_set views id j w u at)

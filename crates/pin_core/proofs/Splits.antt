@@ -106,12 +106,10 @@ splits s id v number writes h here may =
     cond_both (length v.numbers == s.readers) (length v.seen) v.floor (λ f. KnowsPlaces s.slots s.journal f u) (λ all. absurd (alone (eqb-true (length v.numbers) s.readers all) j u other there lives))
     (λ _. subst (λ f. KnowsPlaces s.slots s.journal f u) (sym places.same) (h.places j u there lives)) in
     record {
-      pins = record {
-        counts = λ slot low. h.pins.counts slot low ∙ sym (total_split (pins_at slot) s.views id v left right here (omega arith));
-        spent = λ j u at spent. ⊎_elim
-            (λ (old : get_elem? (set s.views id left) j ≡ some u). ⊎_elim (λ (x : (j ≡ id) × (left ≡ u)). absurd (live (ap (λ (y : View). y.role) x.1 ∙ spent))) (λ (x : (j ≢ id) × (get_elem? s.views j ≡ some u)). h.pins.spent j u x.1 spent) (at_set s.views id j left u old))
-            (λ (new : right ≡ u). ap (λ (y : View). y.entries) (sym new)) (at_push (set s.views id left) right u j at);
-      };
+      pins = λ slot low. h.pins slot low ∙ sym (total_split (pins_at slot) s.views id v left right here (omega arith));
+      spent = λ j u at spent. ⊎_elim
+          (λ (old : get_elem? (set s.views id left) j ≡ some u). ⊎_elim (λ (x : (j ≡ id) × (left ≡ u)). absurd (live (ap (λ (y : View). y.role) x.1 ∙ spent))) (λ (x : (j ≢ id) × (get_elem? s.views j ≡ some u)). h.spent j u x.1 spent) (at_set s.views id j left u old))
+          (λ (new : right ≡ u). let role = ap (λ (y : View). y.role) new in absurd (cc)) (at_push (set s.views id left) right u j at);
       handles = each_split _ s.views id left right (h.handles id v here live) (All-nil (IsKept s.slots s.journal (number_at s.words))) (λ j u _ there. h.handles j u there);
       follows = record {
         some_slot = h.follows.some_slot;

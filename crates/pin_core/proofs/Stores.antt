@@ -100,10 +100,8 @@ stores s id number v write h has may =
     let own_all : writes_by number s.journal ≡ v.own = sym (writes.own number (has_own number v has.reader.1))
     ∙ all_pass (λ (x : Write). x.by == number) v.own (All-weaker (λ (x : Write). has_number x.by v ≡ 1) (λ (x : Write). (x.by == number) ≡ true) (λ x one. eq-eqb x.by number (sym (own_number number x.by v has.reader.1 one))) v.own writes.only) in
     record {
-      pins = record {
-        counts = λ slot inside. h.pins.counts slot inside ∙ sym (total_kept (pins_at slot) s.views id v w here refl);
-        spent = spent_kept s.views id w live h.pins.spent;
-      };
+      pins = λ slot inside. h.pins slot inside ∙ sym (total_kept (pins_at slot) s.views id v w here refl);
+      spent = spent_kept s.views id w live h.spent;
       handles = each_set (KeepsHandles s.slots journal (number_at s.words)) s.views id w (handles v mine places (h.handles id v here live))
           (λ j u _ there lives. handles u (within u (h.owners.each j u there lives)) (h.places j u there lives) (h.handles j u there lives));
       follows = record {

@@ -29,10 +29,8 @@ takes s id number v h has may free =
     let nobody : total has_turn s.views ≡ 0 = h.turn.one ∙ ap (λ (t : Option ℕ). one_if (is_some t)) free in
     let others : (j : ℕ) (u : View) → get_elem? s.views j ≡ some u → u.turn ≢ true = λ j u there theirs. let none = total_none has_turn s.views j u nobody there in let one = ap one_if theirs in omega arith in
     record {
-      pins = record {
-        counts = λ slot inside. h.pins.counts slot inside ∙ sym (total_kept (pins_at slot) s.views id v w here refl);
-        spent = spent_kept s.views id w live h.pins.spent;
-      };
+      pins = λ slot inside. h.pins slot inside ∙ sym (total_kept (pins_at slot) s.views id v w here refl);
+      spent = spent_kept s.views id w live h.spent;
       handles = each_set _ s.views id w (h.handles id v here live) (λ j u _ there. h.handles j u there);
       follows = record {
         some_slot = h.follows.some_slot;
@@ -83,10 +81,8 @@ misses s id number v h has =
     let here = has.here in let live = is_live number v has.reader in let w : View = was_refused v in
     let turn = h.turn.each id v here live in let writes = h.owners.each id v here live in let places = h.places id v here live in
     record {
-      pins = record {
-        counts = λ slot inside. h.pins.counts slot inside ∙ sym (total_kept (pins_at slot) s.views id v w here refl);
-        spent = spent_kept s.views id w live h.pins.spent;
-      };
+      pins = λ slot inside. h.pins slot inside ∙ sym (total_kept (pins_at slot) s.views id v w here refl);
+      spent = spent_kept s.views id w live h.spent;
       handles = each_set _ s.views id w (h.handles id v here live) (λ j u _ there. h.handles j u there);
       follows = record {
         some_slot = h.follows.some_slot;
@@ -136,10 +132,8 @@ gives_back s id number v h has may =
     let free = may.free in
     let others : (j : ℕ) (u : View) → j ≢ id → get_elem? s.views j ≡ some u → u.turn ≢ true = λ j u other there. idle s.slots s.journal _ s.turn s.views h.turn id j v u here may.turn other there in
     record {
-      pins = record {
-        counts = λ slot inside. h.pins.counts slot inside ∙ sym (total_kept (pins_at slot) s.views id v w here refl);
-        spent = spent_kept s.views id w live h.pins.spent;
-      };
+      pins = λ slot inside. h.pins slot inside ∙ sym (total_kept (pins_at slot) s.views id v w here refl);
+      spent = spent_kept s.views id w live h.spent;
       handles = each_set _ s.views id w (h.handles id v here live) (λ j u _ there. h.handles j u there);
       follows = record {
         some_slot = h.follows.some_slot;

@@ -130,6 +130,25 @@ allowance_of v = v.allowance
 abbrev pub IsReader : ℕ → View → Type 0
 IsReader number v = (v.role ≡ roles.Reader) × (v.numbers ≡ number ∷ [])
 
+-- what a spent seat knows: nothing
+abbrev pub spent : View
+spent = record {
+  role = roles.Spent;
+  numbers = [];
+  entries = [];
+  seen = [];
+  own = [];
+  allowance = 0;
+  floor = 0;
+  turn = false;
+  claimed = None;
+  pinned = [];
+  loads = 0;
+  pins = 0;
+  taken = 0;
+  refused = 0;
+}
+
 -- P of each seat, but for those that are spent
 abbrev pub EachSeat : (View → Type 0) → List View → Type 0
 EachSeat P views = (id : ℕ) (v : View) → get_elem? views id ≡ some v → v.role ≢ roles.Spent → P v

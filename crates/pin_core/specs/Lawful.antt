@@ -10,14 +10,13 @@ use Rattle.pin_core.specs.declared.view.View.{View}
 use Rattle.pin_core.specs.declared.view.Role.TheVariants as roles
 use Rattle.pin_core.specs.Replay.{replays}
 use Rattle.pin_core.specs.Sequence.{writes_by, IsCounted}
-use Rattle.pin_core.specs.Core.{CoreState, Front, front_number, front_slot, kept_number, is_taken, number_at, count_at, one_if, total, times, pins_at, held_at, has_number, number_count, has_turn, has_claimed, is_main, allowance_of, EachSeat}
+use Rattle.pin_core.specs.Core.{CoreState, Front, front_number, front_slot, kept_number, is_taken, number_at, count_at, one_if, total, times, pins_at, held_at, has_number, number_count, has_turn, has_claimed, is_main, allowance_of, spent, EachSeat}
 
 -- ---- (a) the pins ----
 
--- the count in each slot's word is the number of pins of all readers at that slot; a spent seat has none
-pub record CountsPins (s : CoreState) : Type 0 where
-  pub counts : (slot : ℕ) → slot < s.slots → count_at s.words slot ≡ total (pins_at slot) s.views
-  pub spent : (id : ℕ) (v : View) → get_elem? s.views id ≡ some v → v.role ≡ roles.Spent → v.entries ≡ []
+-- the count in each slot's word is the number of pins of all readers at that slot
+abbrev pub CountsPins : CoreState → Type 0
+CountsPins s = (slot : ℕ) → slot < s.slots → count_at s.words slot ≡ total (pins_at slot) s.views
 
 -- ---- (b) the handles ----
 
@@ -114,7 +113,12 @@ LeavesRoom s = length s.journal + total allowance_of s.views ≤ s.room
 
 -- ---- all of them ----
 
--- Beside these seven, each seat has at most eight pins for each of its numbers, so that counts fit their words.
+-- a spent seat knows nothing, so that sums over seats leave it out as facts of each seat do
+abbrev pub SpentKnowNothing : List View → Type 0
+SpentKnowNothing views = (id : ℕ) (v : View) → get_elem? views id ≡ some v → v.role ≡ roles.Spent → v ≡ spent
+
+-- Beside these seven, spent seats count for nothing, and each seat has at most eight pins for each of its numbers, so
+-- that counts fit their words.
 pub record Lawful (s : CoreState) : Type 0 where
   pub pins : CountsPins s
   pub handles : EachSeat (KeepsHandles s.slots s.journal (number_at s.words)) s.views
@@ -123,6 +127,7 @@ pub record Lawful (s : CoreState) : Type 0 where
   pub owners : HasOneOwner s.readers s.journal s.views
   pub places : EachSeat (KnowsPlaces s.slots s.journal s.floor) s.views
   pub room : LeavesRoom s
+  pub spent : SpentKnowNothing s.views
   pub few : EachSeat (λ v. length v.entries ≤ 8 * length v.numbers) s.views
 
 -- ---- (h) what is away from home, which a table with places and a book adds ----

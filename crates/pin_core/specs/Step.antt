@@ -13,7 +13,7 @@ use Rattle.pin_core.specs.declared.view.View.{View}
 use Rattle.pin_core.specs.declared.view.Role.TheVariants as roles
 use Rattle.pin_core.specs.Replay.{state_after, allowed}
 use Rattle.pin_core.specs.Sequence.{writes_by}
-use Rattle.pin_core.specs.Core.{CoreState, Front, front_number, front_slot, is_taken, number_at, count_at, has_number, held_count, stray_count, IsReader, with_view}
+use Rattle.pin_core.specs.Core.{CoreState, Front, front_number, front_slot, is_taken, number_at, count_at, has_number, held_count, stray_count, IsReader, spent, with_view}
 
 -- this seat is that of the reader of this number, and knows v
 pub record HasReader (s : CoreState) (id number : ℕ) (v : View) : Type 0 where
@@ -236,25 +236,6 @@ taken_in v w = record v {
   seen = if nat_lt (length v.seen) (length w.seen) then w.seen else v.seen;
   own = v.own ++ w.own;
   allowance = v.allowance + w.allowance;
-}
-
--- what a seat knows whose reader was joined: nothing
-abbrev pub spent : View
-spent = record {
-  role = roles.Spent;
-  numbers = [];
-  entries = [];
-  seen = [];
-  own = [];
-  allowance = 0;
-  floor = 0;
-  turn = false;
-  claimed = None;
-  pinned = [];
-  loads = 0;
-  pins = 0;
-  taken = 0;
-  refused = 0;
 }
 
 abbrev pub join : CoreState → ℕ → View → ℕ → View → CoreState
