@@ -15,3 +15,6 @@ pub mod Claims
 pub mod Stores
 pub mod Splits
 pub mod Joins
+pub mod Opening
+pub mod Runs
+pub mod Readers

@@ -11,6 +11,8 @@ mod entry;
 mod journal;
 mod limits;
 mod listed;
+mod reader_laws;
+mod run_laws;
 mod standing;
 mod step_laws;
 mod view;
@@ -21,6 +23,14 @@ pub use book::Book;
 pub use entry::{Entry, SlotWord};
 pub use limits::{FEWEST_SLOTS, MOST_SLOTS, MOST_WRITES, READER_NUMBERS};
 pub use listed::Listed;
+pub use reader_laws::{
+    a_handle_keeps_its_slot, a_held_slot_is_not_claimed, a_stray_tells_of_more_writes,
+    allowances_have_room, each_write_stands_once, seen_journals_are_parts_of_one,
+    the_turn_has_one_holder,
+};
+pub use run_laws::{
+    no_slot_is_claimed_under_a_handle, reached_states_are_lawful, the_opening_is_lawful,
+};
 pub use step_laws::{
     a_claim_keeps_states_lawful, a_join_keeps_states_lawful, a_load_keeps_states_lawful,
     a_pin_keeps_states_lawful, a_pin_taken_off_keeps_states_lawful, a_split_keeps_states_lawful,
