@@ -18,3 +18,4 @@ pub mod Joins
 pub mod Opening
 pub mod Runs
 pub mod Readers
+pub mod Packing

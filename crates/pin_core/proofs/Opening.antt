@@ -1,20 +1,20 @@
 -- The opening state is lawful.
-use Rattle.std.proofs.Common.{◌≡◌, ◌≢◌, ◌⊎◌, ℕ, zero, suc, ◌+◌, ◌*◌, ◌≤◌, ◌<◌, List, [], ◌∷◌, length, set, replicate, get_or, sym, refl, ap, ◌∙◌, subst, ⊎_elim, arith, Bool, true, false, ◌==◌, eq-eqb, ne_eqb, Option, Some, None}
+use Rattle.std.proofs.Common.{◌≡◌, ◌≢◌, ◌⊎◌, ℕ, zero, suc, ◌+◌, ◌*◌, ◌≤◌, ◌<◌, List, [], ◌∷◌, length, map, set, replicate, suc-mul, get_or, sym, refl, ap, ◌∙◌, subst, ⊎_elim, arith, Bool, true, false, ◌==◌, eq-eqb, ne_eqb, Option, Some, None}
 use mathlib.Core.Option.{some, some-injective, some-ne-none}
 use lib.ListN.{get_elem?}
 use Rattle.std.specs.List.{All, range_with_len}
 use Rattle.std.proofs.lemmas.Bool.{cases_eq}
 use Rattle.std.proofs.lemmas.List.{length-set, length-replicate}
-use Rattle.std.proofs.lemmas.List.Elements.{All-nil}
+use Rattle.std.proofs.lemmas.List.Elements.{All-nil, All-cons}
 use Rattle.std.proofs.lemmas.List.FromFn.{length-range_with_len, get_or-range_with_len}
 use Rattle.pin_core.specs.declared.entry.SlotWord.{SlotWord}
 use Rattle.pin_core.specs.declared.write.Write.{Write}
 use Rattle.pin_core.specs.declared.view.View.{View}
 use Rattle.pin_core.specs.declared.view.Role.TheVariants as roles
 use Rattle.pin_core.specs.Replay.{opening}
-use Rattle.pin_core.specs.Core.{CoreState, kept_number, number_at, count_at, one_if, times, has_number, EachSeat}
+use Rattle.pin_core.specs.Core.{CoreState, kept_number, number_at, count_at, one_if, times, total, has_number, number_count, is_main, has_turn, pins_at, allowance_of, spent, EachSeat}
 use Rattle.pin_core.specs.Lawful.{Lawful, IsKept, WasFront, WasFrontOnce}
-use Rattle.pin_core.specs.Step.{main_at_first, opening_state}
+use Rattle.pin_core.specs.Step.{main_at_first, opening_state, reader_at_first, opening_with_readers}
 use Rattle.pin_core.proofs.Words.{count_here, count_else, number_here, number_else}
 use Rattle.pin_core.proofs.KeptLemmas.{opening_first, opening_others}
 
@@ -118,3 +118,109 @@ opens slots readers room some_slot =
       spent = λ id u at is. absurd (main_only v refl id u at is);
       few = each_one _ v (omega arith);
     }
+
+-- ---- all readers out ----
+
+module _ (writes : ℕ) where
+  abbrev out : ℕ → ℕ → List View
+  out from count = map (reader_at_first writes) (range_with_len from count)
+
+  numbers_out : (number from count : ℕ) → total (has_number number) (out from count) ≡ times number (range_with_len from count)
+  numbers_out number from zero = refl
+  numbers_out number from (suc count) = let rest = numbers_out number (from + 1) count in omega arith
+
+  counts_out : (from count : ℕ) → total number_count (out from count) ≡ count
+  counts_out from zero = refl
+  counts_out from (suc count) = let rest = counts_out (from + 1) count in omega arith
+
+  allowances_out : (from count : ℕ) → total allowance_of (out from count) ≡ count * writes
+  allowances_out from zero = omega arith
+  allowances_out from (suc count) = let rest = allowances_out (from + 1) count in omega (arith, suc-mul count writes)
+
+  none_out : (f : View → ℕ) (from count : ℕ) → ((number : ℕ) → f (reader_at_first writes number) ≡ 0) → total f (out from count) ≡ 0
+  none_out f from zero none = refl
+  none_out f from (suc count) none = let rest = none_out f (from + 1) count none in let here = none from in omega arith
+
+  each_out : (P : View → Type 0) (from count : ℕ) → ((number : ℕ) → number < from + count → P (reader_at_first writes number)) → (id : ℕ) (u : View) → get_elem? (out from count) id ≡ some u → P u
+  each_out P from zero all id u at = absurd (some-ne-none u (sym at))
+  each_out P from (suc count) all zero u at = subst P (some-injective (reader_at_first writes from) u at) (all from (omega arith))
+  each_out P from (suc count) all (suc id) u at = each_out P (from + 1) count (λ number low. all number (omega arith)) id u at
+
+  each_with_out : (P : View → Type 0) (v : View) (count : ℕ) → P v → ((number : ℕ) → number < count → P (reader_at_first writes number)) → EachSeat P (v ∷ out 0 count)
+  each_with_out P v count main all zero u at live = subst P (some-injective v u at) main
+  each_with_out P v count main all (suc id) u at live = each_out P 0 count (λ number low. all number (omega arith)) id u at
+
+pub opens_with_readers : (slots readers writes : ℕ) → 0 < slots → Lawful (opening_with_readers slots readers writes)
+opens_with_readers slots readers writes some_slot =
+    let main : View = record spent { role = roles.Main } in
+    record {
+      pins = λ slot low. (let none = none_out writes (pins_at slot) 0 readers (λ n. refl) in let count = no_count slots slot some_slot in omega arith);
+      handles = each_with_out writes _ main readers (All-nil (IsKept slots [] (number_at (set (replicate slots empty) 0 first)))) (λ n low. All-nil (IsKept slots [] (number_at (set (replicate slots empty) 0 first))));
+      follows = record {
+        some_slot = some_slot;
+        replay = refl;
+        front = refl;
+        wide = length-set (replicate slots empty) 0 first ∙ length-replicate slots empty;
+        kept = λ slot low none. first_kept slots slot some_slot;
+      };
+      turn = record {
+        one = (let none = none_out writes has_turn 0 readers (λ n. refl) in omega arith);
+        each = each_with_out writes _ main readers record {
+          holder = λ is. absurd (cc);
+          current = λ is. absurd (cc);
+          claims = λ slot is. absurd (cc);
+          inside = λ slot is. absurd (cc);
+          unlisted = λ slot is. absurd (cc);
+          coming = λ slot is. absurd (cc);
+        } (λ n low. record {
+          holder = λ is. absurd (cc);
+          current = λ is. absurd (cc);
+          claims = λ slot is. absurd (cc);
+          inside = λ slot is. absurd (cc);
+          unlisted = λ slot is. absurd (cc);
+          coming = λ slot is. absurd (cc);
+        });
+      };
+      owners = record {
+        numbers = λ number low. (let all = numbers_out writes number 0 readers in let once = times_range number 0 readers (omega arith) (omega arith) in omega arith);
+        whole = (let all = counts_out writes 0 readers in omega arith);
+        main = (let none = none_out writes is_main 0 readers (λ n. refl) in omega arith);
+        writers = All-nil (λ (write : Write). write.by < readers);
+        counted = λ number. refl;
+        each = each_with_out writes _ main readers record {
+          reader = λ is. absurd (cc);
+          main = λ _. (refl, refl, refl, refl);
+          inside = All-nil (λ n. n < readers);
+          seen = refl;
+          own = λ number one. refl;
+          told = λ number one. refl;
+          only = All-nil (λ (write : Write). has_number write.by main ≡ 1);
+        } (λ n low. record {
+          reader = λ _. (n, refl);
+          main = λ is. absurd (cc);
+          inside = All-cons (λ k. k < readers) n [] low (All-nil (λ k. k < readers));
+          seen = refl;
+          own = λ number one. refl;
+          told = λ number one. refl;
+          only = All-nil (λ (write : Write). has_number write.by (reader_at_first writes n) ≡ 1);
+        });
+      };
+      places = each_with_out writes _ main readers record {
+        same = refl;
+        above = omega arith;
+        entries = All-nil (WasFront slots [] 0 0);
+        pinned = All-nil (WasFrontOnce slots [] 0);
+      } (λ n low. record {
+        same = refl;
+        above = omega arith;
+        entries = All-nil (WasFront slots [] 0 0);
+        pinned = All-nil (WasFrontOnce slots [] 0);
+      });
+      room = (let all = allowances_out writes 0 readers in omega arith);
+      spent = λ id u at is. (let live : u.role ≢ roles.Spent = no_spent id u at in absurd (live is));
+      few = each_with_out writes _ main readers (omega arith) (λ n low. omega arith);
+    }
+  where
+    no_spent : (id : ℕ) (u : View) → get_elem? (record spent { role = roles.Main } ∷ out writes 0 readers) id ≡ some u → u.role ≢ roles.Spent
+    no_spent zero u at is = let role = ap (λ (x : View). x.role) (some-injective record spent { role = roles.Main } u at) in absurd (cc)
+    no_spent (suc id) u at is = each_out writes (λ (x : View). x.role ≢ roles.Spent) 0 readers (λ n low spent. absurd (cc)) id u at is

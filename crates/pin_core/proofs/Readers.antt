@@ -25,12 +25,12 @@ use Rattle.pin_core.proofs.Stores.{has_own, own_number, all_pass}
 
 -- ---- claims ----
 
-claims_is : (slot : ℕ) (claimed : Option ℕ) → 0 < claims slot claimed → claimed ≡ Some slot
+pub claims_is : (slot : ℕ) (claimed : Option ℕ) → 0 < claims slot claimed → claimed ≡ Some slot
 claims_is slot None more = absurd (omega arith)
 claims_is slot (Some other) more = ⊎_elim (λ (is : other ≡ slot). ap (λ n. Some n) is) (λ (no : other ≢ slot). let zero = ap one_if (ne_eqb other slot no) in absurd (omega arith)) (cases_eq other slot)
 
 -- a seat that has claimed a slot isn't spent
-claimer_lives : (s : CoreState) → Lawful s → (id slot : ℕ) (u : View) → get_elem? s.views id ≡ some u → u.claimed ≡ Some slot → u.role ≢ roles.Spent
+pub claimer_lives : (s : CoreState) → Lawful s → (id slot : ℕ) (u : View) → get_elem? s.views id ≡ some u → u.claimed ≡ Some slot → u.role ≢ roles.Spent
 claimer_lives s h id slot u at claimed is = let same = ap (λ (x : View). x.claimed) (h.spent id u at is) in absurd (cc)
 
 -- a slot that no seat has claimed

@@ -1,6 +1,6 @@
 -- The steps of the protocol: when each is allowed, and what it leaves. A step of one of seven kinds is made by a reader
 -- that is out, and changes one word and what that reader's seat knows. A split and a join change two seats.
-use Rattle.std.specs.Prelude.{◌≡◌, ◌≢◌, ℕ, ◌+◌, ◌-◌, ◌<◌, ◌≤◌, Bool, true, false, not, nat_lt, ◌==◌, if◌then◌else◌, is_some, Option, Some, None, List, [], ◌∷◌, ◌++◌, length, filter, replicate, slice_get, slice_set}
+use Rattle.std.specs.Prelude.{◌≡◌, ◌≢◌, ℕ, ◌+◌, ◌-◌, ◌*◌, ◌<◌, ◌≤◌, Bool, true, false, not, nat_lt, ◌==◌, if◌then◌else◌, is_some, Option, Some, None, List, [], ◌∷◌, ◌++◌, length, map, filter, replicate, slice_get, slice_set}
 use Rattle.std.specs.List.{remove, range_with_len}
 use mathlib.Core.Option.{some}
 use lib.ListN.{get_elem?}
@@ -260,3 +260,12 @@ opening_state slots readers room = record {
   floor = 0;
   views = main_at_first readers room ∷ [];
 }
+
+-- what a reader knows that is out from the start
+abbrev pub reader_at_first : ℕ → ℕ → View
+reader_at_first writes number = record spent { role = roles.Reader; numbers = number ∷ []; allowance = writes }
+
+-- the same state with all readers out, each with an allowance of so many writes, for which the journal has room
+abbrev pub opening_with_readers : ℕ → ℕ → ℕ → CoreState
+opening_with_readers slots readers writes =
+    record (opening_state slots readers (readers * writes)) { views = record spent { role = roles.Main } ∷ map (reader_at_first writes) (range_with_len 0 readers) }

@@ -11,6 +11,7 @@ mod entry;
 mod journal;
 mod limits;
 mod listed;
+mod packing_laws;
 mod reader_laws;
 mod run_laws;
 mod standing;
@@ -23,13 +24,15 @@ pub use book::Book;
 pub use entry::{Entry, SlotWord};
 pub use limits::{FEWEST_SLOTS, MOST_SLOTS, MOST_WRITES, READER_NUMBERS};
 pub use listed::Listed;
+pub use packing_laws::{packed_words_are_read_back, places_stand_apart, words_show_small_numbers};
 pub use reader_laws::{
     a_handle_keeps_its_slot, a_held_slot_is_not_claimed, a_stray_tells_of_more_writes,
     allowances_have_room, each_write_stands_once, seen_journals_are_parts_of_one,
     the_turn_has_one_holder,
 };
 pub use run_laws::{
-    no_slot_is_claimed_under_a_handle, reached_states_are_lawful, the_opening_is_lawful,
+    lawful_states_stay_lawful, no_slot_is_claimed_under_a_handle, reached_states_are_lawful,
+    the_opening_is_lawful, the_opening_with_all_readers_is_lawful,
 };
 pub use step_laws::{
     a_claim_keeps_states_lawful, a_join_keeps_states_lawful, a_load_keeps_states_lawful,
