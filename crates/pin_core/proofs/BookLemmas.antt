@@ -159,6 +159,15 @@ rows_listed book rows number shelved =
     ap (λ (xs : List Listed). list_any (λ (row : Listed). eqb row.n number) xs) shelved.listed
     ∙ listed_row number book.names (list_of book).listed
 
+slot_row : (slot : ℕ) (names : List (List ℕ)) (es : List Edition) → list_any (λ (row : Listed). eqb row.slot slot) (with_names names es) ≡ is_slot_listed slot es
+slot_row slot names [] = refl
+slot_row slot names (e ∷ es) = ap (λ b. eqb e.slot slot || b) (slot_row slot names es)
+
+pub rows_slot : (book : Chronicle) (rows : Rows) (slot : ℕ) → IsShelved book rows → list_any (λ (row : Listed). eqb row.slot slot) rows.listed ≡ is_slot_listed slot (list_of book).listed
+rows_slot book rows slot shelved =
+    ap (λ (xs : List Listed). list_any (λ (row : Listed). eqb row.slot slot) xs) shelved.listed
+    ∙ slot_row slot book.names (list_of book).listed
+
 -- a number without a place isn't listed
 no_place : {X : Type 0} (p : X → Bool) (xs : List X) → position p xs ≡ None → list_any p xs ≡ false
 no_place p xs none =

@@ -19,3 +19,4 @@ pub mod Opening
 pub mod Runs
 pub mod Readers
 pub mod Packing
+pub mod LawLemmas

@@ -1,5 +1,5 @@
 -- Words of lawful states are small, and what is packed can be read back.
-use Rattle.std.proofs.Common.{◌≡◌, ◌≢◌, ◌⊎◌, ℕ, zero, suc, ◌+◌, ◌*◌, ◌/◌, ◌%◌, ◌≤◌, ◌<◌, List, [], ◌∷◌, ◌++◌, length, sym, refl, ap, ◌∙◌, subst, ⊎_elim, arith, Bool, true, false, ◌==◌, Option, Some, None}
+use Rattle.std.proofs.Common.{◌≡◌, ◌≢◌, ◌⊎◌, ℕ, zero, suc, ◌+◌, ◌*◌, ◌/◌, ◌%◌, ◌^◌, ◌≤◌, ◌<◌, List, [], ◌∷◌, ◌++◌, length, sym, refl, ap, ◌∙◌, subst, ⊎_elim, arith, Bool, true, false, ◌==◌, Option, Some, None}
 use mathlib.Core.Option.{some}
 use lib.ListN.{get_elem?}
 use Rattle.std.proofs.lemmas.List.{length-append}
@@ -66,12 +66,12 @@ front_small s h =
     let front = front_le s.slots s.journal h.follows.some_slot h.follows.replay in let inside = front_slot_inside s.slots s.journal h.follows.some_slot h.follows.replay in let room = h.room in
     (omega arith, omega arith, omega arith)
 
-pub slot_back : (number count : ℕ) → number < 67108864 → count < 4294967296 → (packed_slot record { number = number; count = count } < 18446744073709551616) × (packed_slot record { number = number; count = count } / 4294967296 ≡ number)
-    × (packed_slot record { number = number; count = count } % 4294967296 ≡ count)
+pub slot_back : (number count : ℕ) → number < 2 ^ 26 → count < 2 ^ 32 → (packed_slot record { number = number; count = count } < 2 ^ 64) × (packed_slot record { number = number; count = count } / 2 ^ 32 ≡ number)
+    × (packed_slot record { number = number; count = count } % 2 ^ 32 ≡ count)
 slot_back number count low few = (omega arith, omega arith, omega arith)
 
-pub front_back : (w n slot : ℕ) → w < 67108864 → n < 67108864 → slot < 64 → (packed_front record { w = w; n = n; slot = slot } < 18446744073709551616) × (packed_front record { w = w; n = n; slot = slot } / 4294967296 ≡ w)
-    × (packed_front record { w = w; n = n; slot = slot } / 64 % 67108864 ≡ n) × (packed_front record { w = w; n = n; slot = slot } % 64 ≡ slot)
+pub front_back : (w n slot : ℕ) → w < 2 ^ 26 → n < 2 ^ 26 → slot < 2 ^ 6 → (packed_front record { w = w; n = n; slot = slot } < 2 ^ 64) × (packed_front record { w = w; n = n; slot = slot } / 2 ^ 32 ≡ w)
+    × (packed_front record { w = w; n = n; slot = slot } / 2 ^ 6 % 2 ^ 26 ≡ n) × (packed_front record { w = w; n = n; slot = slot } % 2 ^ 6 ≡ slot)
 front_back w n slot low lower lowest = (omega arith, omega arith, omega arith, omega arith)
 
 pub apart : (slot other reader another : ℕ) → reader < 16 → another < 16 → place slot reader ≡ place other another → (slot ≡ other) × (reader ≡ another)

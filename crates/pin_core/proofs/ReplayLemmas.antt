@@ -40,12 +40,21 @@ pub record Orderly (slots pushed : ℕ) (state : ListState) : Type 0 where
   pub front : (front_of state.listed).n ≡ pushed + 1
   pub stands : Stands (pushed + 2) state.kept state.listed
   pub bounded : (slot : ℕ) → get_or state.kept slot 0 ≤ pushed + 1
+  pub apart : (slot other : ℕ) → 0 < get_or state.kept slot 0 → get_or state.kept slot 0 ≡ get_or state.kept other 0 → slot ≡ other
 
 pub zeros_below : (slots slot : ℕ) → slice_index (replicate slots 0) slot ≡ 0
 zeros_below slots slot =
     ⊎_elim (λ (lt : slot < slots). get_or-replicate {A = ℕ} slots slot 0 0 lt)
     (λ (le : slots ≤ slot). get_or_past {X = ℕ} (replicate slots 0) slot 0 (rw (length-replicate {A = ℕ} slots 0) le))
     (cases_lt slot slots)
+
+-- before any write only the first slot keeps something
+only_first : (slots slot : ℕ) → 0 < slice_index (set (replicate slots 0) 0 1) slot → slot ≡ 0
+only_first slots slot positive =
+    let zeros : List ℕ = replicate slots 0 in
+    ⊎_elim (λ (same : slot ≡ 0). same)
+    (λ (other : slot ≡ 0 → ⊥). absurd (omega (arith, positive, get_or-set_other zeros 0 slot 1 0 other, zeros_below slots slot)))
+    (cases_eq slot 0)
 
 pub opening_orderly : (slots : ℕ) → 0 < slots → Orderly slots 0 (opening slots)
 opening_orderly slots some =
@@ -62,7 +71,27 @@ opening_orderly slots some =
       bounded = λ slot. ⊎_elim (λ (same : slot ≡ 0). rw same (omega (arith, first)))
           (λ (apart : slot ≡ 0 → ⊥). omega (arith, get_or-set_other zeros 0 slot 1 0 apart, zeros_below slots slot))
           (cases_eq slot 0);
+      apart = λ slot other some same. (let at_zero : (k : ℕ) → 0 < slice_index (set zeros 0 1) k → k ≡ 0 = λ k positive. only_first slots k positive in at_zero slot some ∙ sym (at_zero other (rw (← same) some)));
     }
+
+-- a new number is kept by one slot
+pushed_apart : (pushed n slot : ℕ) (kept : List ℕ) → ((k : ℕ) → get_or kept k 0 ≤ pushed + 1) → ((i j : ℕ) → 0 < get_or kept i 0 → get_or kept i 0 ≡ get_or kept j 0 → i ≡ j) → pushed + 1 < n → slot < length kept → (i j : ℕ) → 0 < get_or (set kept slot n) i 0 → get_or (set kept slot n) i 0 ≡ get_or (set kept slot n) j 0 → i ≡ j
+pushed_apart pushed n slot kept bounded apart high inside i j positive same =
+    let here : get_or (set kept slot n) slot 0 ≡ n = get_or-set_same kept slot n 0 inside in
+    ⊎_elim
+    (λ (at : i ≡ slot).
+    ⊎_elim (λ (also : j ≡ slot). at ∙ sym also)
+    (λ (other : j ≡ slot → ⊥). absurd (let at_i : get_or (set kept slot n) i 0 ≡ n = rw at here in omega (arith, at_i, same, get_or-set_other kept slot j n 0 other, bounded j, high)))
+    (cases_eq j slot))
+    (λ (off : i ≡ slot → ⊥).
+    ⊎_elim
+    (λ (also : j ≡ slot). absurd (let at_j : get_or (set kept slot n) j 0 ≡ n = rw also here in omega (arith, at_j, same, get_or-set_other kept slot i n 0 off, bounded i, high)))
+    (λ (other : j ≡ slot → ⊥).
+    let old_i = get_or-set_other kept slot i n 0 off in
+    let old_j = get_or-set_other kept slot j n 0 other in
+    apart i j (omega (arith, positive, old_i)) (sym old_i ∙ (same ∙ old_j)))
+    (cases_eq j slot))
+    (cases_eq i slot)
 
 pub push_orderly : (slots pushed n src slot : ℕ) (state : ListState) → Orderly slots pushed state → PushAsks state n slot → Orderly slots (pushed + 1) (after_change state (Push n src slot))
 push_orderly slots pushed n src slot state orderly asks =
@@ -77,6 +106,7 @@ push_orderly slots pushed n src slot state orderly asks =
       bounded = λ other. ⊎_elim (λ (same : other ≡ slot). rw same (omega (arith, here, number)))
           (λ (apart : other ≡ slot → ⊥). omega (arith, get_or-set_other state.kept slot other n 0 apart, orderly.bounded other))
           (cases_eq other slot);
+      apart = pushed_apart pushed n slot state.kept orderly.bounded orderly.apart (omega (arith, number)) asks.inside;
     }
 
 -- the front stays where an older one is taken off
@@ -103,6 +133,7 @@ erase_orderly slots pushed after gone state orderly asks =
       front = ap (λ (e : Edition). e.n) (front_stays (pushed + 2) after gone state.kept state.listed orderly.stands asks.listed less) ∙ orderly.front;
       stands = stands_filter (λ edition. not (eqb edition.n gone)) (pushed + 2) state.kept state.listed orderly.stands;
       bounded = orderly.bounded;
+      apart = orderly.apart;
     }
 
 -- an allowed change leaves a state in order

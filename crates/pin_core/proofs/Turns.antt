@@ -129,7 +129,7 @@ pub gives_back : (s : CoreState) (id number : ℕ) (v : View) → Lawful s → H
 gives_back s id number v h has may =
     let here = has.here in let live = is_live number v has.reader in let w : View = gave_turn v in
     let turn = h.turn.each id v here live in let writes = h.owners.each id v here live in let places = h.places id v here live in
-    let free = may.free in
+    let published = may.published in
     let others : (j : ℕ) (u : View) → j ≢ id → get_elem? s.views j ≡ some u → u.turn ≢ true = λ j u other there. idle s.slots s.journal _ s.turn s.views h.turn id j v u here may.turn other there in
     record {
       pins = λ slot inside. h.pins slot inside ∙ sym (total_kept (pins_at slot) s.views id v w here refl);

@@ -166,7 +166,7 @@ store_front s id v write =
 -- the reader has the turn and no claimed slot
 pub record MayGive (v : View) : Type 0 where
   pub turn : v.turn ≡ true
-  pub free : v.claimed ≡ None
+  pub published : v.claimed ≡ None
 
 abbrev pub gave_turn : View → View
 gave_turn v = record v { turn = false }

@@ -1,7 +1,7 @@
 //! The list of one thread: its journal, the names of versions, and the list that they replay to.
 //!
 //! A position w is the number of writes so far. `Book::new` takes all memory that the book will ever use.
-ghost use Rattle.std.specs.Prelude.{◌≡◌, ℕ, ◌+◌, ◌<◌, ◌≤◌, ◌↔◌, ◌≢◌, [], ◌∷◌, ◌++◌, length, slice_index, false, IsTrue, IfOk, IsErrOf, Contains};
+ghost use Rattle.std.specs.Prelude.{◌≡◌, ℕ, ◌+◌, ◌<◌, ◌≤◌, ◌↔◌, ◌≢◌, [], ◌∷◌, ◌++◌, length, slice_index, false, IsTrue, IfOk, OnOk, IsErrOf, Contains};
 ghost use Rattle.pin_core.specs.declared.listed.Listed.{Listed};
 ghost use Rattle.pin_core.specs.declared.write.Change.TheVariants as changes;
 ghost use Rattle.pin_core.specs.declared.after_error.AfterError.TheVariants as errors;
@@ -127,10 +127,18 @@ impl Book {
         self.standing.kept()[slot as usize]
     }
 
+    /// Whether the version that the slot keeps is listed. A push wants a slot where it isn't.
+    pub fn is_slot_listed(&self, slot: u32) -> bool
+        ensures { result ≡ is_slot_listed slot (list_of self.now).listed }
+    {
+        self.standing.has_slot(slot)
+    }
+
     /// The version behind the one of this number: the greatest that is listed below it. `NotListed` comes exactly where
     /// the number isn't listed, and `Nothing` exactly where it is the least that is.
     pub fn after(&self, number: u32) -> Result<Listed, AfterError>
         ensures behind { IfOk result (λ row. Contains (rows_of self.now) row × (row.n ≡ greatest_below number (list_of self.now).listed)) }
+        ensures erasable { OnOk result (IsTrue (is_listed number (list_of self.now).listed) × (0 < greatest_below number (list_of self.now).listed)) }
         ensures not_listed { IsErrOf result errors.NotListed ↔ (is_listed number (list_of self.now).listed ≡ false) }
         ensures nothing { IsErrOf result errors.Nothing ↔ (IsTrue (is_listed number (list_of self.now).listed) × (greatest_below number (list_of self.now).listed ≡ 0)) }
     {

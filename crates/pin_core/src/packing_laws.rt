@@ -1,6 +1,6 @@
 //! The words of a lawful state fit 64 bits, and can be read back.
 
-ghost use Rattle.std.specs.Prelude.{◌≡◌, ℕ, ◌+◌, ◌*◌, ◌/◌, ◌%◌, ◌<◌, ◌≤◌, Option};
+ghost use Rattle.std.specs.Prelude.{◌≡◌, ℕ, ◌+◌, ◌*◌, ◌/◌, ◌%◌, ◌^◌, ◌<◌, ◌≤◌, Option};
 ghost use Rattle.pin_core.specs.Core.{CoreState, front_number, number_at, count_at};
 ghost use Rattle.pin_core.specs.Lawful.{Lawful};
 ghost use Rattle.pin_core.specs.Packing.{packed_slot, packed_front, place, book_place};
@@ -15,8 +15,8 @@ pub fn words_show_small_numbers()
 
 /// A slot's word and the front word fit 64 bits, and each part of them can be read back.
 pub fn packed_words_are_read_back()
-    ensures slot { (number count : ℕ) → number < 67108864 → count < 4294967296 → (packed_slot record { number = number; count = count } < 18446744073709551616) × (packed_slot record { number = number; count = count } / 4294967296 ≡ number) × (packed_slot record { number = number; count = count } % 4294967296 ≡ count) }
-    ensures front { (w n slot : ℕ) → w < 67108864 → n < 67108864 → slot < 64 → (packed_front record { w = w; n = n; slot = slot } < 18446744073709551616) × (packed_front record { w = w; n = n; slot = slot } / 4294967296 ≡ w) × (packed_front record { w = w; n = n; slot = slot } / 64 % 67108864 ≡ n) × (packed_front record { w = w; n = n; slot = slot } % 64 ≡ slot) }
+    ensures slot { (number count : ℕ) → number < 2 ^ 26 → count < 2 ^ 32 → (packed_slot record { number = number; count = count } < 2 ^ 64) × (packed_slot record { number = number; count = count } / 2 ^ 32 ≡ number) × (packed_slot record { number = number; count = count } % 2 ^ 32 ≡ count) }
+    ensures front { (w n slot : ℕ) → w < 2 ^ 26 → n < 2 ^ 26 → slot < 2 ^ 6 → (packed_front record { w = w; n = n; slot = slot } < 2 ^ 64) × (packed_front record { w = w; n = n; slot = slot } / 2 ^ 32 ≡ w) × (packed_front record { w = w; n = n; slot = slot } / 2 ^ 6 % 2 ^ 26 ≡ n) × (packed_front record { w = w; n = n; slot = slot } % 2 ^ 6 ≡ slot) }
 {}
 
 /// The places of different readers and slots are different, and none is the book's.

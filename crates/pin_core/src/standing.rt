@@ -1,6 +1,7 @@
 //! The list as it stands: what is listed, newest first, and the number that each slot keeps. Its room is taken at the
 //! start: no more can be listed than there are slots.
 ghost use Rattle.std.specs.Prelude.{◌≡◌, ℕ, ◌+◌, ◌<◌, ◌==◌, [], ◌∷◌, length, replicate, remove, position, slice_index, slice_index_or, slice_set, IfOk};
+ghost use Rattle.std.specs.List.{list_any};
 ghost use Rattle.pin_core.specs.declared.listed.Listed.{Listed};
 
 use crate::listed::Listed;
@@ -55,6 +56,13 @@ impl Standing {
         ensures { result ≡ position (λ (row : Listed). row.n == number) self.now.listed }
     {
         self.listed.iter().position(|row| row.n == number)
+    }
+
+    /// Whether a version in this slot is listed.
+    pub fn has_slot(&self, slot: u32) -> bool
+        ensures { result ≡ list_any (λ (row : Listed). row.slot == slot) self.now.listed }
+    {
+        self.listed.iter().any(|row| row.slot == slot)
     }
 
     /// Lists a version before all others, and lets its slot keep its number.

@@ -55,3 +55,11 @@ returns-in-Some-get-clause-nothing c =
     let look = c.in-Some-get.ensures in
     let short : c.in-Some.place + 1 < length c.self.inside.standing.listed = rw (← c.listed.ensures) look.lookup.3.0 in
     (λ h. absurd (search rules), λ h. absurd (omega (arith, h.1, at.some short)))
+
+pub returns-in-Some-get-clause-erasable : goal.returns-in-Some-get-clause-erasable
+returns-in-Some-get-clause-erasable c =
+    let shelved : IsShelved c.args.self.now c.self.inside.standing = rw (← c.self.view_is) c.self.invariant.1 in
+    let at = found c.args.self.now c.self.inside.standing c.args.number c.in-Some.place shelved (sym c.place_of.ensures ∙ c.in-Some.is) in
+    let look = c.in-Some-get.ensures in
+    let short : c.in-Some.place + 1 < length c.self.inside.standing.listed = rw (← c.listed.ensures) look.lookup.3.0 in
+    (at.listed, at.some short)
