@@ -1,0 +1,34 @@
+//! What holds in every state that steps reach from the opening, over every interleaving.
+
+ghost use Rattle.std.specs.Prelude.{◌≡◌, ◌<◌, ℕ, Contains, true};
+ghost use Rattle.pin_core.specs.declared.entry.Entry.{Entry};
+ghost use Rattle.pin_core.specs.declared.view.View.{View};
+ghost use Rattle.pin_core.specs.Core.{CoreState};
+ghost use Rattle.pin_core.specs.Lawful.{Lawful};
+ghost use Rattle.pin_core.specs.Step.{HasReader, MayClaim, claim, miss_slot, opening_state, opening_with_readers};
+ghost use Rattle.pin_core.specs.Run.{Reaches};
+
+/// The opening state of a list that has a slot is lawful.
+pub fn the_opening_is_lawful()
+    ensures { (slots readers room : ℕ) → 0 < slots → Lawful (opening_state slots readers room) }
+{}
+
+/// The opening state with all readers out is lawful too.
+pub fn the_opening_with_all_readers_is_lawful()
+    ensures { (slots readers writes : ℕ) → 0 < slots → Lawful (opening_with_readers slots readers writes) }
+{}
+
+/// Every state that is reached from the opening is lawful.
+pub fn reached_states_are_lawful()
+    ensures { (slots readers room : ℕ) (s : CoreState) → 0 < slots → Reaches (opening_state slots readers room) s → Lawful s }
+{}
+
+/// Every state that is reached from a lawful one is lawful.
+pub fn lawful_states_stay_lawful()
+    ensures { (s t : CoreState) → Lawful s → Reaches s t → Lawful t }
+{}
+
+/// No slot is claimed while a reader has a handle there: whoever claims it finds it pinned.
+pub fn no_slot_is_claimed_under_a_handle()
+    ensures { (slots readers room : ℕ) (s : CoreState) (id number : ℕ) (v : View) (e : Entry) (other claimer : ℕ) (u : View) → 0 < slots → Reaches (opening_state slots readers room) s → HasReader s id number v → Contains v.entries e → e.held ≡ true → HasReader s other claimer u → MayClaim s e.slot u → claim s other u e.slot ≡ miss_slot s other u e.slot }
+{}
