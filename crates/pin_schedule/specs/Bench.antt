@@ -1,11 +1,13 @@
 -- What a run of a schedule keeps at hand of a state: what the next events need, and what is told at the end.
-use Rattle.std.specs.Prelude.{◌≡◌, ℕ, ◌+◌, ◌≤◌, Bool, false, Option, None, List, [], length, map, All}
+use Rattle.std.specs.Prelude.{◌≡◌, ℕ, ◌+◌, ◌≤◌, Bool, false, Option, Some, None, List, [], ◌∷◌, length, map, slice_get, All}
+use Rattle.std.specs.Option.{option_and_then}
 use Rattle.pin_core.specs.declared.write.Write.{Write}
 use Rattle.pin_core.specs.declared.entry.SlotWord.{SlotWord}
 use Rattle.pin_core.specs.declared.view.View.{View}
 use Rattle.pin_core.specs.Replay.{Edition, state_after, front_of}
 use Rattle.pin_core.specs.Core.{CoreState}
-use Rattle.pin_schedule.specs.declared.core.CoreReader.{CoreReader}
+use Rattle.pin_schedule.specs.declared.state.Core.{Core}
+use Rattle.pin_schedule.specs.declared.state.CoreReader.{CoreReader}
 use Rattle.pin_schedule.specs.declared.row.Row.{Row}
 use Rattle.pin_schedule.specs.CoreOf.{reader_views, reader_of}
 
@@ -46,6 +48,26 @@ bench_of s = record {
   journal = s.journal;
   listed = map row_of (state_after s.slots s.journal).listed;
   seats = map (known_of s.slots) (reader_views s);
+}
+
+-- the first of these rows, or number 0 in slot 0 where there is none
+abbrev pub first_of : List Row → Row
+first_of [] = record { n = 0; slot = 0 }
+first_of (row ∷ rows) = row
+
+-- the slot that the reader with the turn has claimed
+abbrev pub claim_among : List Known → Option ℕ → Option ℕ
+claim_among seats None = None
+claim_among seats (Some number) = option_and_then (λ (k : Known). k.claimed) (slice_get seats number)
+
+-- what is told of it all
+abbrev pub told_of : Bench → Core
+told_of bench = record {
+  journal = bench.journal;
+  words = bench.words;
+  turn = bench.turn;
+  claimed = claim_among bench.seats bench.turn;
+  readers = map (λ (k : Known). k.told) bench.seats;
 }
 
 -- before any event, where each reader may make so many writes

@@ -3,8 +3,8 @@ use Rattle.std.specs.Prelude.{ℕ, Option, Some, None, List, length, map, drop, 
 use Rattle.std.specs.Option.{option_and_then}
 use Rattle.pin_core.specs.declared.view.View.{View}
 use Rattle.pin_core.specs.Core.{CoreState}
-use Rattle.pin_schedule.specs.declared.core.Core.{Core}
-use Rattle.pin_schedule.specs.declared.core.CoreReader.{CoreReader}
+use Rattle.pin_schedule.specs.declared.state.Core.{Core}
+use Rattle.pin_schedule.specs.declared.state.CoreReader.{CoreReader}
 
 -- the seats of the readers, in the order of their numbers: the main's is before them
 abbrev pub reader_views : CoreState → List View

@@ -30,3 +30,8 @@ IsBarred kind number old =
 abbrev pub Comes : Bool → Kind → ℕ → Bench → Bench → Type 0
 Comes true kind number old new = Happens kind number old new
 Comes false kind number old new = IsBarred kind number old
+
+-- the same of an event: it is allowed and makes the new of the old, or it isn't allowed
+abbrev pub Goes : Bool → Event → Bench → Bench → Type 0
+Goes true event old new = (s : CoreState) → Ready s → old ≡ bench_of s → (t : CoreState) × Follows s event t × (new ≡ bench_of t)
+Goes false event old new = (s : CoreState) → Ready s → old ≡ bench_of s → (t : CoreState) → Follows s event t → ⊥

@@ -6,19 +6,19 @@
 //! no thread runs. The crate stands on `pin_core` for the state, the steps and their laws.
 #![tactic(auto)]
 
-mod core;
 mod error;
 mod event;
 mod row;
 mod runner;
 mod schedule;
 mod seat;
+mod state;
 
-pub use core::{Core, CoreReader, CoreReaders, Entries, Journal, SlotWords, Slots};
 pub use error::ScheduleError;
 pub use event::{Event, Kind};
 pub use pin_core::{Entry, SlotWord};
 pub use schedule::{MOST_EVENTS, run_schedule};
+pub use state::{Core, CoreReader, CoreReaders, Entries, Journal, SlotWords, Slots};
 
 #[cfg(test)]
 mod tests;

@@ -1,18 +1,20 @@
 //! A run: the state of the shared list as far as the next events need it, moved on event by event.
-ghost use Rattle.std.specs.Prelude.{◌≡◌, ℕ, ◌+◌, ◌<◌, ◌≤◌, Bool, List, [], ◌∷◌, length, map, filter, fold, slice_index_or, slice_set, All, OnOk, IfOk, IsErrOf};
+ghost use Rattle.std.specs.Prelude.{nat_lt, ◌==◌, ◌≡◌, ℕ, ◌+◌, ◌<◌, ◌≤◌, Bool, List, [], ◌∷◌, length, map, filter, fold, slice_index_or, slice_set, All, OnOk, IfOk, IsErrOf};
 ghost use Rattle.std.specs.List.{list_any};
 ghost use Rattle.pin_core.specs.declared.entry.SlotWord.{SlotWord};
 ghost use Rattle.pin_core.specs.Replay.{greatest};
-ghost use Rattle.pin_core.specs.Step.{opening_with_readers};
+ghost use Rattle.pin_core.specs.Step.{opening_with_readers, with_count};
 ghost use Rattle.pin_schedule.specs.declared.row.Row.{Row};
 ghost use Rattle.pin_schedule.specs.declared.event.Kind.TheVariants as kinds;
-ghost use Rattle.pin_schedule.specs.Bench.{Within, bench_of};
-ghost use Rattle.pin_schedule.specs.Happens.{Comes};
+ghost use Rattle.pin_schedule.specs.Bench.{Within, bench_of, first_of, claim_among, told_of};
+ghost use Rattle.pin_schedule.specs.Happens.{Comes, Goes};
+ghost use Rattle.pin_schedule.specs.declared.schedule.TheConstants.{MOST_EVENTS};
 
-use crate::core::{Core, CoreReader};
-use crate::event::Kind;
+use crate::event::{Event, Kind};
 use crate::row::Row;
+use crate::schedule::MOST_EVENTS;
 use crate::seat::Seat;
+use crate::state::{Core, CoreReader};
 use pin_core::{Change, SlotWord, Write};
 use std::alloc::Global;
 use std::marker::Model;
@@ -65,35 +67,57 @@ impl Runner {
         })
     }
 
-    /// A step of this kind by the reader of this number. No comes where it isn't allowed.
-    pub fn step(&mut self, number: u32, kind: Kind) -> Result<bool, NoMemory> {
-        let place = number as usize;
-        if place >= self.seats.len() {
+    /// Moves on by this event, before which there were so many. No comes where it isn't allowed.
+    pub fn step(&mut self, events: u32, event: Event) -> Result<bool, NoMemory>
+        requires events { events < MOST_EVENTS }
+        requires within { Within events self.old }
+        ensures within { OnOk result (Within (events + 1) self.new) }
+        ensures goes { IfOk result (λ done. Goes done event self.old self.new) }
+    {
+        let number = event.reader;
+        if number as usize >= self.seats.len() {
             return Ok(false);
         }
-        match kind {
-            Kind::LoadFront => Ok(self.load_front(place)),
-            Kind::AddPin => self.add_pin(place),
-            Kind::TakePin { slot } => Ok(self.take_pin(place, slot)),
-            Kind::TakeTurn => Ok(self.exchange_turn(place)),
-            Kind::Claim { slot } => self.claim(place, slot),
-            Kind::StorePush { src } => self.store_push(place, src),
-            Kind::StoreErase { after } => self.store_erase(place, after),
-            Kind::StoreTurn => Ok(self.give_turn(place)),
+        match event.kind {
+            Kind::LoadFront => Ok(self.load_front(events, number)),
+            Kind::AddPin => self.add_pin(events, number),
+            Kind::TakePin { slot } => Ok(self.take_pin(events, number, slot)),
+            Kind::TakeTurn => Ok(self.exchange_turn(events, number)),
+            Kind::Claim { slot } => self.claim(events, number, slot),
+            Kind::StorePush { src } => self.store_push(events, number, src),
+            Kind::StoreErase { after } => self.store_erase(events, number, after),
+            Kind::StoreTurn => Ok(self.give_turn(events, number)),
         }
     }
 
-    fn load_front(&mut self, place: usize) -> bool {
+    fn load_front(&mut self, events: u32, number: u32) -> bool
+        requires events { events < MOST_EVENTS }
+        requires within { Within events self.old }
+        requires seat { number < length self.old.seats }
+        ensures within { Within (events + 1) self.new }
+        ensures comes { Comes result (kinds.LoadFront) number self.old self.new }
+    {
+        let _ = events;
         let w = self.journal.len() as u32;
         let front = first_row(self.listed.as_slice());
-        let seat = &mut self.seats[place];
+        let seat = &mut self.seats[number as usize];
         seat.load(w, front);
         true
     }
 
-    fn add_pin(&mut self, place: usize) -> Result<bool, NoMemory> {
-        let seat = &mut self.seats[place];
-        if seat.handles() >= MOST_HANDLES || !seat.is_settled() {
+    fn add_pin(&mut self, events: u32, number: u32) -> Result<bool, NoMemory>
+        requires events { events < MOST_EVENTS }
+        requires within { Within events self.old }
+        requires seat { number < length self.old.seats }
+        ensures within { OnOk result (Within (events + 1) self.new) }
+        ensures comes { IfOk result (λ done. Comes done (kinds.AddPin) number self.old self.new) }
+    {
+        let _ = events;
+        let seat = &mut self.seats[number as usize];
+        if seat.handles() >= MOST_HANDLES {
+            return Ok(false);
+        }
+        if !seat.is_settled() {
             return Ok(false);
         }
         let front = seat.front();
@@ -103,8 +127,15 @@ impl Runner {
         Ok(true)
     }
 
-    fn take_pin(&mut self, place: usize, slot: u32) -> bool {
-        let seat = &mut self.seats[place];
+    fn take_pin(&mut self, events: u32, number: u32, slot: u32) -> bool
+        requires events { events < MOST_EVENTS }
+        requires within { Within events self.old }
+        requires seat { number < length self.old.seats }
+        ensures within { Within (events + 1) self.new }
+        ensures comes { Comes result (kinds.TakePin slot) number self.old self.new }
+    {
+        let _ = events;
+        let seat = &mut self.seats[number as usize];
         let Some(taken) = seat.place_taken(slot) else {
             return false;
         };
@@ -114,10 +145,17 @@ impl Runner {
         true
     }
 
-    fn exchange_turn(&mut self, place: usize) -> bool {
+    fn exchange_turn(&mut self, events: u32, number: u32) -> bool
+        requires events { events < MOST_EVENTS }
+        requires within { Within events self.old }
+        requires seat { number < length self.old.seats }
+        ensures within { Within (events + 1) self.new }
+        ensures comes { Comes result (kinds.TakeTurn) number self.old self.new }
+    {
+        let _ = events;
         let w = self.journal.len() as u32;
         let front = first_row(self.listed.as_slice());
-        let seat = &mut self.seats[place];
+        let seat = &mut self.seats[number as usize];
         if seat.has_turn() {
             return false;
         }
@@ -125,18 +163,31 @@ impl Runner {
             seat.miss_turn();
         } else {
             seat.take_turn(w, front);
-            self.turn = Some(place as u32);
+            self.turn = Some(number);
         }
         true
     }
 
-    fn claim(&mut self, place: usize, slot: u32) -> Result<bool, NoMemory> {
+    fn claim(&mut self, events: u32, number: u32, slot: u32) -> Result<bool, NoMemory>
+        requires events { events < MOST_EVENTS }
+        requires within { Within events self.old }
+        requires seat { number < length self.old.seats }
+        ensures within { OnOk result (Within (events + 1) self.new) }
+        ensures comes { IfOk result (λ done. Comes done (kinds.Claim slot) number self.old self.new) }
+    {
+        let _ = events;
         let front = first_row(self.listed.as_slice());
-        let seat = &mut self.seats[place];
-        if !seat.has_turn() || seat.claimed().is_some() {
+        let seat = &mut self.seats[number as usize];
+        if !seat.has_turn() {
             return Ok(false);
         }
-        if slot as usize >= self.words.len() || is_slot_listed(self.listed.as_slice(), slot) {
+        if seat.claimed().is_some() {
+            return Ok(false);
+        }
+        if slot as usize >= self.words.len() {
+            return Ok(false);
+        }
+        if is_slot_listed(self.listed.as_slice(), slot) {
             return Ok(false);
         }
         let word = word_at(self.words.as_slice(), slot);
@@ -152,18 +203,28 @@ impl Runner {
         Ok(true)
     }
 
-    fn store_push(&mut self, place: usize, src: u32) -> Result<bool, NoMemory> {
+    fn store_push(&mut self, events: u32, number: u32, src: u32) -> Result<bool, NoMemory>
+        requires events { events < MOST_EVENTS }
+        requires within { Within events self.old }
+        requires seat { number < length self.old.seats }
+        ensures within { OnOk result (Within (events + 1) self.new) }
+        ensures comes { IfOk result (λ done. Comes done (kinds.StorePush src) number self.old self.new) }
+    {
+        let _ = events;
         let front = first_row(self.listed.as_slice());
-        let seat = &mut self.seats[place];
+        let seat = &mut self.seats[number as usize];
         let Some(slot) = seat.claimed() else {
             return Ok(false);
         };
-        if !seat.has_turn() || seat.allowance() == 0 {
+        if !seat.has_turn() {
+            return Ok(false);
+        }
+        if seat.allowance() == 0 {
             return Ok(false);
         }
         let n = front.n + 1;
         self.journal.push(Write {
-            by: place as u32,
+            by: number,
             seq: seat.own() + 1,
             change: Change::Push { n, src, slot },
         })?;
@@ -172,17 +233,33 @@ impl Runner {
         Ok(true)
     }
 
-    fn store_erase(&mut self, place: usize, after: u32) -> Result<bool, NoMemory> {
-        let seat = &mut self.seats[place];
-        if !seat.has_turn() || seat.claimed().is_some() || seat.allowance() == 0 {
+    fn store_erase(&mut self, events: u32, number: u32, after: u32) -> Result<bool, NoMemory>
+        requires events { events < MOST_EVENTS }
+        requires within { Within events self.old }
+        requires seat { number < length self.old.seats }
+        ensures within { OnOk result (Within (events + 1) self.new) }
+        ensures comes { IfOk result (λ done. Comes done (kinds.StoreErase after) number self.old self.new) }
+    {
+        let _ = events;
+        let seat = &mut self.seats[number as usize];
+        if !seat.has_turn() {
+            return Ok(false);
+        }
+        if seat.claimed().is_some() {
+            return Ok(false);
+        }
+        if seat.allowance() == 0 {
+            return Ok(false);
+        }
+        if !is_listed(self.listed.as_slice(), after) {
             return Ok(false);
         }
         let gone = greatest_below(self.listed.as_slice(), after);
-        if !is_listed(self.listed.as_slice(), after) || gone == 0 {
+        if gone == 0 {
             return Ok(false);
         }
         self.journal.push(Write {
-            by: place as u32,
+            by: number,
             seq: seat.own() + 1,
             change: Change::Erase { after, gone },
         })?;
@@ -192,9 +269,19 @@ impl Runner {
         Ok(true)
     }
 
-    fn give_turn(&mut self, place: usize) -> bool {
-        let seat = &mut self.seats[place];
-        if !seat.has_turn() || seat.claimed().is_some() {
+    fn give_turn(&mut self, events: u32, number: u32) -> bool
+        requires events { events < MOST_EVENTS }
+        requires within { Within events self.old }
+        requires seat { number < length self.old.seats }
+        ensures within { Within (events + 1) self.new }
+        ensures comes { Comes result (kinds.StoreTurn) number self.old self.new }
+    {
+        let _ = events;
+        let seat = &mut self.seats[number as usize];
+        if !seat.has_turn() {
+            return false;
+        }
+        if seat.claimed().is_some() {
             return false;
         }
         seat.give_turn();
@@ -203,7 +290,9 @@ impl Runner {
     }
 
     /// What is told of it all.
-    pub fn into_core(self, alloc: Global) -> Result<Core, NoMemory> {
+    pub fn into_core(self, alloc: Global) -> Result<Core, NoMemory>
+        ensures { IfOk result (λ core. core ≡ told_of self) }
+    {
         let Runner {
             words,
             turn,
@@ -227,23 +316,31 @@ impl Runner {
 }
 
 /// The first of these rows, or number 0 in slot 0 where there is none.
-fn first_row(rows: &[Row]) -> Row {
+fn first_row(rows: &[Row]) -> Row
+    ensures { result ≡ first_of rows.now }
+{
     match rows.first() {
         Some(row) => *row,
         None => Row { n: 0, slot: 0 },
     }
 }
 
-fn is_slot_listed(rows: &[Row], slot: u32) -> bool {
+fn is_slot_listed(rows: &[Row], slot: u32) -> bool
+    ensures { result ≡ list_any (λ (row : Row). row.slot == slot) rows.now }
+{
     rows.iter().any(|row| row.slot == slot)
 }
 
-fn is_listed(rows: &[Row], number: u32) -> bool {
+fn is_listed(rows: &[Row], number: u32) -> bool
+    ensures { result ≡ list_any (λ (row : Row). row.n == number) rows.now }
+{
     rows.iter().any(|row| row.n == number)
 }
 
 /// The greatest number below this one, or 0 where there is none.
-fn greatest_below(rows: &[Row], number: u32) -> u32 {
+fn greatest_below(rows: &[Row], number: u32) -> u32
+    ensures { result ≡ greatest (filter (λ other. nat_lt other number) (map (λ (row : Row). row.n) rows.now)) }
+{
     let mut greatest = 0;
     for row in rows {
         if row.n < number && greatest < row.n {
@@ -254,7 +351,9 @@ fn greatest_below(rows: &[Row], number: u32) -> u32 {
 }
 
 /// The word of this slot.
-fn word_at(words: &[SlotWord], slot: u32) -> SlotWord {
+fn word_at(words: &[SlotWord], slot: u32) -> SlotWord
+    ensures { result ≡ slice_index_or words.now slot (record { number = 0; count = 0 }) }
+{
     match words.get(slot as usize) {
         Some(word) => *word,
         None => SlotWord {
@@ -265,14 +364,19 @@ fn word_at(words: &[SlotWord], slot: u32) -> SlotWord {
 }
 
 /// Lets the word of this slot count so many pins.
-fn set_count(words: &mut [SlotWord], slot: u32, count: u32) {
-    if let Some(word) = words.get_mut(slot as usize) {
-        word.count = count;
+fn set_count(words: &mut Vec<SlotWord>, slot: u32, count: u32)
+    ensures { words.new.items ≡ with_count words.old.items slot count }
+{
+    let place = slot as usize;
+    if place < words.len() {
+        words[place].count = count;
     }
 }
 
 /// The slot that the reader with the turn has claimed.
-fn claimed_by(seats: &[Seat], turn: Option<u32>) -> Option<u32> {
+fn claimed_by(seats: &[Seat], turn: Option<u32>) -> Option<u32>
+    ensures { result ≡ claim_among seats.now turn }
+{
     match turn {
         Some(number) => match seats.get(number as usize) {
             Some(seat) => seat.claimed(),

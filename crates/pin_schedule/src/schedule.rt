@@ -2,10 +2,10 @@
 ghost use Rattle.std.specs.Prelude.{◌≡◌, ◌<◌, ◌≤◌, length};
 ghost use Rattle.pin_core.specs.declared.limits.TheConstants.{FEWEST_SLOTS, MOST_SLOTS, MOST_WRITES, READER_NUMBERS};
 
-use crate::core::Core;
 use crate::error::ScheduleError;
 use crate::event::Event;
 use crate::runner::Runner;
+use crate::state::Core;
 use std::alloc::Global;
 
 /// The most events of a schedule.
@@ -23,7 +23,7 @@ pub fn run_schedule(
     let mut runner = Runner::new(alloc, slots, readers, room)?;
     let mut index = 0;
     for event in events {
-        if !runner.step(event.reader, event.kind)? {
+        if !runner.step(index, *event)? {
             return Err(ScheduleError::NotAllowed { index });
         }
         index += 1;

@@ -1,13 +1,13 @@
 //! A reader as a run keeps it at hand.
-ghost use Rattle.std.specs.Prelude.{◌≡◌, ℕ, ◌+◌, ◌-◌, ◌<◌, ◌^◌, Bool, true, false, ◌==◌, Option, Some, None, List, [], ◌∷◌, ◌++◌, length, filter, position, remove, OnOk};
+ghost use Rattle.std.specs.Prelude.{◌≡◌, ℕ, ◌+◌, ◌-◌, ◌<◌, ◌^◌, Bool, true, false, not, ◌||◌, nat_le, ◌==◌, Option, Some, None, List, [], ◌∷◌, ◌++◌, length, filter, position, remove, OnOk};
 ghost use Rattle.std.specs.List.{list_all};
 ghost use Rattle.pin_core.specs.declared.entry.Entry.{Entry};
 ghost use Rattle.pin_core.specs.Step.{with_number};
 ghost use Rattle.pin_schedule.specs.Event.{is_stray_at, is_oldest_at, place_taken};
 ghost use Rattle.pin_schedule.specs.Bench.{fresh};
 
-use crate::core::CoreReader;
 use crate::row::Row;
+use crate::state::CoreReader;
 use pin_core::Entry;
 use std::alloc::Global;
 use std::marker::Model;
@@ -265,12 +265,23 @@ fn none_older(entries: &[Entry], slot: u32, position: u32) -> bool
 fn add_number(numbers: &mut Vec<u32>, number: u32) -> Result<(), NoMemory>
     ensures { OnOk result (numbers.new.items ≡ with_number number numbers.old.items) }
 {
-    let place = numbers.partition_point(|other| *other < number);
-    match numbers.get(place) {
-        Some(other) if *other == number => Ok(()),
-        _ => {
-            numbers.insert(place, number)?;
+    match first_not_below(numbers.as_slice(), number) {
+        Some(place) => {
+            if numbers[place] != number {
+                numbers.insert(place, number)?;
+            }
+            Ok(())
+        }
+        None => {
+            numbers.push(number)?;
             Ok(())
         }
     }
+}
+
+/// The place of the first of these that isn't below the number.
+fn first_not_below(numbers: &[u32], number: u32) -> Option<usize>
+    ensures { result ≡ position (λ other. nat_le number other) numbers.now }
+{
+    numbers.iter().position(|other| number <= *other)
 }
