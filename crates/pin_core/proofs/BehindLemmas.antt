@@ -1,5 +1,5 @@
 -- The version behind another in the list.
-use Rattle.std.proofs.Common.{◌≡◌, ℕ, zero, suc, ◌+◌, ◌<◌, ◌≤◌, max, Bool, true, false, not, cond, eqb, ltb, List, [], ◌∷◌, ◌++◌, length, map, filter, get_or, take, drop, remove, refl, sym, ap, ◌∙◌, subst, arith}
+use Rattle.std.proofs.Common.{◌≡◌, ℕ, zero, suc, ◌<◌, ◌≤◌, true, false, not, eqb, ltb, List, [], ◌∷◌, length, map, filter, get_or, remove, refl, sym, ap, ◌∙◌, subst, arith}
 use Rattle.std.proofs.lemmas.Bool.{cond-true, cond-false, ne_eqb, eq-eqb, lt-ltb, le-ltb, not_from_false, not_from_true}
 use Rattle.pin_core.specs.Replay.{Edition, greatest, greatest_below}
 use Rattle.pin_core.proofs.ListLemmas.{Stands, greatest_less}

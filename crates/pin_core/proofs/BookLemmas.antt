@@ -1,9 +1,9 @@
 -- A book's rows are its journal's replay, and what a push and an erase make of both.
-use Rattle.std.proofs.Common.{◌≡◌, ℕ, zero, suc, ◌+◌, ◌-◌, ◌<◌, ◌≤◌, Bool, true, false, not, ◌&&◌, ◌||◌, cond, eqb, ltb, List, [], ◌∷◌, ◌++◌, length, length-append, map, filter, fold, get_or, set, take, drop, remove, position, Contains, Some, None, Option, slice_index, refl, sym, ap, ◌∙◌, ⊎_elim, arith}
+use Rattle.std.proofs.Common.{◌≡◌, ℕ, zero, suc, ◌+◌, ◌-◌, ◌<◌, ◌≤◌, Bool, true, false, not, ◌&&◌, ◌||◌, eqb, ltb, List, [], ◌∷◌, ◌++◌, length, length-append, filter, get_or, set, remove, position, Contains, Some, None, refl, sym, ap, ◌∙◌, ⊎_elim, arith}
 use Rattle.std.specs.List.{list_any, position_or_len}
-use Rattle.std.proofs.lemmas.Bool.{and_parts, and_from, cond-true, cond-false, eq-eqb, eqb-true, lt-ltb, ltb-false, cases_Bool, cases_lt, not_from_false}
+use Rattle.std.proofs.lemmas.Bool.{and_from, cond-true, eq-eqb, eqb-true, lt-ltb, ltb-false, cases_Bool, cases_lt, not_from_false}
 use Rattle.std.proofs.lemmas.Option.{none-some}
-use Rattle.std.proofs.lemmas.List.{get_or-map, get_or_append_left, get_or_push, take-map, drop-map}
+use Rattle.std.proofs.lemmas.List.{get_or-map, get_or_append_left, get_or_push}
 use Rattle.std.proofs.lemmas.List.Concat.{flat_map-append}
 use Rattle.std.proofs.lemmas.List.Folds.{list_any_none, list_any_at}
 use Rattle.std.proofs.lemmas.List.Sums.{fails_before_first}
@@ -12,18 +12,17 @@ use Rattle.pin_core.specs.declared.listed.Listed.{Listed}
 use Rattle.pin_core.specs.declared.write.Change.{Change}
 use Rattle.pin_core.specs.declared.write.Change.TheVariants.{Push, Erase}
 use Rattle.pin_core.specs.declared.write.Write.{Write}
-use Rattle.pin_core.specs.declared.limits.TheConstants.{FEWEST_SLOTS, MOST_SLOTS, MOST_WRITES}
-use Rattle.pin_core.specs.Replay.{Edition, ListState, opening, front_of, is_listed, is_slot_listed, greatest_below, allowed, after_change, after_write, state_after, replays_from, replays}
+use Rattle.pin_core.specs.declared.limits.TheConstants.{MOST_SLOTS, MOST_WRITES}
+use Rattle.pin_core.specs.Replay.{Edition, ListState, opening, front_of, is_listed, is_slot_listed, greatest_below, allowed, after_change, after_write, state_after}
 use Rattle.pin_core.specs.Pushes.{pushed_by, pushes}
-use Rattle.pin_core.specs.Sequence.{next_seq, IsCounted}
+use Rattle.pin_core.specs.Sequence.{next_seq}
 use Rattle.pin_core.specs.Names.{name_of, with_name, with_names}
 use Rattle.pin_core.specs.Standing.{Rows}
-use Rattle.pin_core.specs.Book.{Chronicle, list_of, rows_of, IsBook, IsShelved}
+use Rattle.pin_core.specs.Book.{Chronicle, list_of, rows_of, IsShelved}
 use Rattle.pin_core.proofs.ListLemmas.{Stands, few_listed}
 use Rattle.pin_core.proofs.ReplayLemmas.{Orderly, PushAsks, EraseAsks, replay_orderly, push_orderly, replays_push, state_after_push}
 use Rattle.pin_core.proofs.SequenceLemmas.{counted_push}
-use Rattle.pin_core.proofs.BehindLemmas.{IsBehind, behind, listed_at}
-use Rattle.pin_core.proofs.ReplayLemmas.{gone_less}
+use Rattle.pin_core.proofs.BehindLemmas.{behind, listed_at}
 
 -- a push that has what it asks is allowed, and an erase
 pub asked_push : (state : ListState) (n src slot : ℕ) → PushAsks state n slot → allowed state (Push n src slot) ≡ true

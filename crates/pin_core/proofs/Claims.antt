@@ -1,21 +1,20 @@
 -- A claim that finds no pin, and one that finds some, keep states lawful.
-use Rattle.std.proofs.Common.{◌≡◌, ◌≢◌, ◌⊎◌, ℕ, zero, suc, ◌+◌, ◌≤◌, ◌<◌, List, [], ◌∷◌, length, take, set, get_or, sym, refl, ap, ◌∙◌, subst, ⊎_elim, arith, Bool, true, false, ◌==◌, eqb, eq-eqb, ne_eqb, Option, Some, None}
+use Rattle.std.proofs.Common.{◌≡◌, ◌≢◌, ℕ, ◌+◌, ◌<◌, List, [], ◌∷◌, length, set, get_or, sym, refl, ap, ◌∙◌, subst, ⊎_elim, arith, true, false, ◌==◌, eq-eqb, ne_eqb, Some}
 use Rattle.std.specs.Prelude.{nat_lt}
 use mathlib.Core.Option.{some}
 use lib.ListN.{get_elem?}
 use Rattle.std.specs.List.{All}
 use Rattle.std.proofs.lemmas.Bool.{cond_both, cases_eq, eqb-true, eqb-false}
 use Rattle.std.proofs.lemmas.List.{length-set}
-use Rattle.std.proofs.lemmas.List.Elements.{All-nil, All-cons, All-head, All-tail, All-weaker}
+use Rattle.std.proofs.lemmas.List.Elements.{All-nil, All-cons, All-head, All-tail}
 use Rattle.pin_core.specs.declared.entry.Entry.{Entry}
 use Rattle.pin_core.specs.declared.entry.SlotWord.{SlotWord}
-use Rattle.pin_core.specs.declared.write.Write.{Write}
 use Rattle.pin_core.specs.declared.view.View.{View}
 use Rattle.pin_core.specs.declared.view.Role.TheVariants as roles
-use Rattle.pin_core.specs.Core.{CoreState, front_number, front_slot, is_taken, number_at, count_at, total, one_if, pins_at, claims, has_claimed, has_turn, allowance_of, IsReader}
-use Rattle.pin_core.specs.Lawful.{Lawful, IsKept, WasFront, WasFrontOnce, KnowsTurn, KeepsHandles}
+use Rattle.pin_core.specs.Core.{CoreState, front_number, is_taken, number_at, count_at, total, one_if, pins_at, claims, has_claimed, has_turn, allowance_of}
+use Rattle.pin_core.specs.Lawful.{Lawful, WasFront, WasFrontOnce, KeepsHandles}
 use Rattle.pin_core.specs.Step.{HasReader, MayClaim, claiming, claim_slot, with_number, found_pinned, miss_slot, claim}
-use Rattle.pin_core.proofs.Sums.{total_kept, total-set, total_none, total_some, term_le}
+use Rattle.pin_core.proofs.Sums.{total_kept, total-set, total_none, total_some}
 use Rattle.pin_core.proofs.Words.{count_here, count_else, number_here, number_else}
 use Rattle.pin_core.proofs.Seats.{each_set, is_live, idle, owners_kept, spent_kept}
 use Rattle.pin_core.proofs.Loads.{seen_within}

@@ -1,19 +1,19 @@
 -- A join keeps states lawful.
-use Rattle.std.proofs.Common.{◌≡◌, ◌≢◌, ◌⊎◌, ℕ, zero, suc, ◌+◌, ◌-◌, ◌*◌, ◌≤◌, ◌<◌, List, [], ◌∷◌, ◌++◌, length, take, set, get_or, sym, refl, ap, ◌∙◌, subst, ⊎_elim, inl, inr, arith, Bool, true, false, cond, ◌==◌, eq-eqb, ne_eqb, Option, Some, None}
+use Rattle.std.proofs.Common.{◌≡◌, ◌≢◌, ◌⊎◌, ℕ, zero, suc, ◌+◌, ◌≤◌, ◌<◌, List, [], ◌∷◌, ◌++◌, length, take, set, sym, refl, ap, ◌∙◌, subst, ⊎_elim, inl, inr, arith, true, false, ◌==◌, ne_eqb, Option, Some, None}
 use Rattle.std.specs.Prelude.{nat_lt}
 use mathlib.Core.Option.{some}
 use lib.ListN.{get_elem?}
-use Rattle.std.specs.List.{All, filter}
-use Rattle.std.proofs.lemmas.Bool.{both_ways, cases_eq, cases_Bool, cond-true, cond-false, cond_both, ltb-true, ltb-false}
+use Rattle.std.specs.List.{All}
+use Rattle.std.proofs.lemmas.Bool.{both_ways, cases_Bool, cond-true, cond-false, cond_both, ltb-true, ltb-false}
 use Rattle.std.proofs.lemmas.List.{append-nil, length-append}
-use Rattle.std.proofs.lemmas.List.Elements.{All-nil, All-cons, All-head, All-tail, All-weaker, All-append, filter-append}
+use Rattle.std.proofs.lemmas.List.Elements.{All-nil, All-head, All-tail, All-weaker, All-append, filter-append}
 use Rattle.pin_core.specs.declared.entry.Entry.{Entry}
 use Rattle.pin_core.specs.declared.write.Write.{Write}
 use Rattle.pin_core.specs.declared.view.View.{View}
 use Rattle.pin_core.specs.declared.view.Role.TheVariants as roles
 use Rattle.pin_core.specs.Sequence.{writes_by}
-use Rattle.pin_core.specs.Core.{CoreState, total, one_if, times, has_number, number_count, is_main, mains, pins_at, claims, has_claimed, has_turn, allowance_of, spent, EachSeat}
-use Rattle.pin_core.specs.Lawful.{Lawful, WasFront, WasFrontOnce}
+use Rattle.pin_core.specs.Core.{CoreState, total, one_if, has_number, number_count, is_main, mains, pins_at, claims, has_claimed, has_turn, allowance_of, spent, EachSeat}
+use Rattle.pin_core.specs.Lawful.{Lawful, WasFront}
 use Rattle.pin_core.specs.Step.{MayJoin, taken_in, join}
 use Rattle.pin_core.proofs.Sums.{at_set, set_else, total-set, total-append, terms_le}
 use Rattle.pin_core.proofs.Splits.{inside_of}
@@ -61,7 +61,7 @@ each_join P views id other both mine others j u at live =
     (at_set (set views id both) other j spent u at)
 
 -- a sum stays where what both know counts what the two counted
-total_join : (f : View → ℕ) (views : List View) (id other : ℕ) (v w both : View) → other ≢ id → get_elem? views id ≡ some v → get_elem? views other ≡ some w → f both ≡ f v + f w → f spent ≡ 0
+pub total_join : (f : View → ℕ) (views : List View) (id other : ℕ) (v w both : View) → other ≢ id → get_elem? views id ≡ some v → get_elem? views other ≡ some w → f both ≡ f v + f w → f spent ≡ 0
     → total f (set (set views id both) other spent) ≡ total f views
 total_join f views id other v w both apart here there sum none =
     let first = total-set f views id v both here in let second = total-set f (set views id both) other w spent (set_else views id other both apart ∙ there) in omega arith

@@ -1,15 +1,13 @@
 -- What slots keep: the last number that was pushed into each.
-use Rattle.std.proofs.Common.{◌≡◌, ℕ, zero, suc, ◌+◌, ◌<◌, ◌≤◌, ◌≢◌, ◌⊎◌, ◌↔◌, Bool, true, false, ◌||◌, eqb, List, [], ◌∷◌, ◌++◌, length, map, filter, fold, get_or, set, replicate, slice_index, refl, sym, ap, ◌∙◌, ⊎_elim, inl, inr, subst, arith, get_or-set_other, get_or-set_same, length-set}
-use Rattle.std.specs.List.{list_any}
+use Rattle.std.proofs.Common.{◌≡◌, ℕ, ◌<◌, ◌≢◌, ◌⊎◌, ◌↔◌, true, false, eqb, List, [], ◌∷◌, length, fold, replicate, slice_index, refl, sym, ◌∙◌, ⊎_elim, inl, inr, subst, arith, get_or-set_other, get_or-set_same}
 use Rattle.std.proofs.lemmas.Bool.{and_parts, or_parts, or_cases, eqb-true, eqb-false, cases_eq, cases_Bool, false≢true}
 use Rattle.std.proofs.lemmas.List.Folds.{list_any-append}
-use Rattle.std.proofs.lemmas.List.Sums.{fold-append}
 use Rattle.pin_core.specs.declared.write.Change.{Change}
 use Rattle.pin_core.specs.declared.write.Change.TheVariants.{Push, Erase}
 use Rattle.pin_core.specs.declared.write.Write.{Write}
-use Rattle.pin_core.specs.Replay.{Edition, ListState, opening, front_of, is_slot_listed, allowed, after_change, after_write, state_after, replays_from, replays}
+use Rattle.pin_core.specs.Replay.{Edition, ListState, opening, is_slot_listed, allowed, after_change, after_write, state_after, replays_from, replays}
 use Rattle.pin_core.specs.Pushes.{pushed_by, pushes}
-use Rattle.pin_core.proofs.ReplayLemmas.{PushAsks, push_asks, opening_orderly, zeros_below}
+use Rattle.pin_core.proofs.ReplayLemmas.{push_asks, zeros_below}
 use Rattle.std.proofs.lemmas.List.{length-replicate}
 
 same_change : (slot : ℕ) (state : ListState) (change : Change) → is_slot_listed slot (pushed_by change) ≡ false → slice_index (after_change state change).kept slot ≡ slice_index state.kept slot

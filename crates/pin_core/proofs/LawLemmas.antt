@@ -1,18 +1,17 @@
 -- What the laws of journals that replay rest on.
-use Rattle.std.proofs.Common.{◌≡◌, ℕ, zero, suc, ◌+◌, ◌-◌, ◌<◌, ◌≤◌, ◌≢◌, ◌⊎◌, ◌↔◌, max, Bool, true, false, not, ◌&&◌, ◌||◌, cond, eqb, ltb, List, [], ◌∷◌, ◌++◌, length, length-append, map, filter, fold, get_or, set, slice_index, Contains, Some, refl, sym, ap, ◌∙◌, ⊎_elim, inl, inr, subst, arith, IsTrue}
+use Rattle.std.proofs.Common.{◌≡◌, ℕ, zero, suc, ◌+◌, ◌<◌, ◌≤◌, ◌⊎◌, ◌↔◌, max, Bool, true, false, not, ◌||◌, eqb, ltb, List, [], ◌∷◌, ◌++◌, length, map, filter, fold, get_or, slice_index, Contains, Some, refl, sym, ap, ◌∙◌, ⊎_elim, inl, inr, subst, arith}
 use Rattle.std.specs.Prelude.{slice_get}
-use Rattle.std.specs.List.{list_any}
-use Rattle.std.proofs.lemmas.Bool.{and_parts, and_from, or_parts, or_cases, or_left, or_right, not-true, not_from_false, cond_both, cond-true, cond-false, eqb-true, eqb-false, eq-eqb, ne_eqb, ltb-true, ltb-false, cases_eq, cases_Bool, cases_lt, false≢true, false_from_ne_true}
+use Rattle.std.proofs.lemmas.Bool.{and_parts, or_parts, or_cases, or_left, or_right, not-true, not_from_false, cond_both, cond-true, cond-false, eqb-true, eqb-false, eq-eqb, ne_eqb, ltb-false, cases_Bool, cases_lt}
 use Rattle.std.proofs.lemmas.Option.{same_Some, slice_get_within, slice_get-get_or}
-use Rattle.std.proofs.lemmas.List.Elements.{All-contains, All-filter, All-contains_itself, filter_passes, Contains-append_cases}
+use Rattle.std.proofs.lemmas.List.Elements.{All-contains, All-filter, All-contains_itself, filter_passes}
 use Rattle.std.proofs.lemmas.List.Sums.{fold-append}
 use Rattle.pin_core.specs.declared.write.Change.{Change}
 use Rattle.pin_core.specs.declared.write.Change.TheVariants.{Push, Erase}
 use Rattle.pin_core.specs.declared.write.Write.{Write}
 use Rattle.pin_core.specs.Replay.{Edition, ListState, opening, front_of, is_listed, is_slot_listed, greatest, greatest_below, allowed, after_change, after_write, state_after, replays_from, replays}
 use Rattle.pin_core.specs.Pushes.{pushed_by, pushes, erases, is_erased}
-use Rattle.pin_core.proofs.ListLemmas.{Stands, few_listed, listed_below, greatest_less}
-use Rattle.pin_core.proofs.ReplayLemmas.{Orderly, PushAsks, EraseAsks, push_asks, erase_asks, change_orderly, replay_orderly, opening_orderly, replays_parts, gone_less}
+use Rattle.pin_core.proofs.ListLemmas.{Stands, listed_below}
+use Rattle.pin_core.proofs.ReplayLemmas.{Orderly, EraseAsks, push_asks, erase_asks, change_orderly, replay_orderly, opening_orderly, replays_parts, gone_less}
 use Rattle.pin_core.proofs.KeptLemmas.{same_kept, kept_here}
 
 -- ---- elements

@@ -20,3 +20,4 @@ pub mod Runs
 pub mod Readers
 pub mod Packing
 pub mod LawLemmas
+pub mod Places

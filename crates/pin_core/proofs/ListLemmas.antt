@@ -1,8 +1,8 @@
 -- Editions in a list: those that stand in the slots that keep them, with numbers that fall.
-use Rattle.std.proofs.Common.{◌≡◌, ℕ, zero, suc, ◌+◌, ◌-◌, ◌<◌, ◌≤◌, max, ◌⊎◌, Bool, true, false, not, ◌&&◌, ◌||◌, cond, eqb, ltb, List, [], ◌∷◌, ◌++◌, length, map, filter, get_or, set, count_by, sum_by, refl, sym, ap, ◌∙◌, ⊎_elim, arith, length-set, get_or-set_other, get_or-set_same, slice_index}
-use Rattle.std.proofs.lemmas.Bool.{or_parts, or_cases, or_left, or_right, cond_both, cond-true, cond-false, cases_Bool, false≢true, not_from_false, not_from_true, cases_lt, eqb-false, eqb-true, ne_eqb, eq-eqb, ltb-true, lt-ltb, le-ltb}
+use Rattle.std.proofs.Common.{◌≡◌, ℕ, ◌<◌, ◌≤◌, Bool, true, false, ◌||◌, cond, eqb, ltb, List, [], ◌∷◌, length, filter, get_or, set, count_by, refl, ◌∙◌, ⊎_elim, arith, length-set, get_or-set_other}
+use Rattle.std.proofs.lemmas.Bool.{or_parts, or_cases, cond_both, cond-true, false≢true, eqb-false, eqb-true, ne_eqb, ltb-true, lt-ltb}
 use Rattle.std.proofs.lemmas.List.Sums.{sum_by-set, count_by-le-length}
-use Rattle.pin_core.specs.Replay.{Edition, front_of, is_listed, is_slot_listed, greatest, greatest_below}
+use Rattle.pin_core.specs.Replay.{Edition, is_listed, is_slot_listed, greatest}
 
 -- each of these editions stands in a slot that keeps its number, and the numbers fall from below the bound
 abbrev pub Stands : ℕ → List ℕ → List Edition → Type 0

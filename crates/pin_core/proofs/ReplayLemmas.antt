@@ -1,6 +1,6 @@
 -- What each state has that a journal replays to.
-use Rattle.std.proofs.Common.{◌≡◌, ℕ, zero, suc, ◌+◌, ◌-◌, ◌<◌, ◌≤◌, max, ◌⊎◌, Bool, true, false, not, ◌&&◌, ◌||◌, cond, eqb, ltb, List, [], ◌∷◌, ◌++◌, length, length-append, map, filter, fold, get_or, set, replicate, refl, sym, ap, ◌∙◌, ⊎_elim, arith, length-set, get_or-set_other, get_or-set_same, slice_index}
-use Rattle.std.proofs.lemmas.Bool.{and_parts, and_from, not-true, cond-true, cases_eq, cases_lt, not_from_false, false≢true, eqb-false, eqb-true, ne_eqb, ltb-true}
+use Rattle.std.proofs.Common.{◌≡◌, ℕ, ◌+◌, ◌<◌, ◌≤◌, true, false, not, ◌&&◌, eqb, ltb, List, [], ◌∷◌, ◌++◌, length, length-append, map, filter, fold, get_or, set, replicate, refl, sym, ap, ◌∙◌, ⊎_elim, arith, length-set, get_or-set_other, get_or-set_same, slice_index}
+use Rattle.std.proofs.lemmas.Bool.{and_parts, and_from, not-true, cond-true, cases_eq, cases_lt, not_from_false, eqb-true, ne_eqb, ltb-true}
 use Rattle.std.proofs.lemmas.List.{length-replicate, get_or-replicate, get_or_past}
 use Rattle.std.proofs.lemmas.List.Sums.{fold_push}
 use Rattle.pin_core.specs.declared.write.Change.{Change}
@@ -8,7 +8,7 @@ use Rattle.pin_core.specs.declared.write.Change.TheVariants.{Push, Erase}
 use Rattle.pin_core.specs.declared.write.Write.{Write}
 use Rattle.pin_core.specs.Replay.{Edition, ListState, opening, front_of, is_listed, is_slot_listed, greatest_below, allowed, after_change, after_write, state_after, replays_from, replays}
 use Rattle.pin_core.specs.Pushes.{pushed_by, pushes}
-use Rattle.pin_core.proofs.ListLemmas.{Stands, stands_wider, stands_set, stands_filter, few_listed, listed_below, greatest_less}
+use Rattle.pin_core.proofs.ListLemmas.{Stands, stands_wider, stands_set, stands_filter, listed_below, greatest_less}
 
 -- what a push asks
 pub record PushAsks (state : ListState) (n slot : ℕ) : Type 0 where

@@ -1,6 +1,6 @@
 -- How many writes are by a number, and what one more write makes of it.
-use Rattle.std.proofs.Common.{◌≡◌, ℕ, zero, suc, ◌+◌, ◌<◌, ◌≤◌, Bool, true, false, ◌&&◌, cond, eqb, List, [], ◌∷◌, ◌++◌, length, length-append, length-set, get_or, get_or-set_other, get_or-set_same, set, slice_index, filter, refl, sym, ap, ◌∙◌, append-nil, ⊎_elim, subst, arith}
-use Rattle.std.proofs.lemmas.Bool.{and_parts, and_from, eq-eqb, eqb-true, eqb-false, ne_eqb, cond-true, cond-false, cases_Bool, cases_eq}
+use Rattle.std.proofs.Common.{◌≡◌, ℕ, ◌+◌, ◌<◌, ◌≤◌, true, false, eqb, List, [], ◌∷◌, ◌++◌, length, length-append, get_or-set_other, get_or-set_same, set, slice_index, refl, sym, ap, ◌∙◌, append-nil, ⊎_elim, subst, arith}
+use Rattle.std.proofs.lemmas.Bool.{and_parts, and_from, eq-eqb, ne_eqb, cond-true, cond-false, cases_eq}
 use Rattle.std.proofs.lemmas.List.Sums.{length-filter, count_by-le-length}
 use Rattle.std.proofs.lemmas.List.Elements.{filter-append}
 use Rattle.pin_core.specs.declared.write.Write.{Write}

@@ -1,6 +1,6 @@
 -- The steps of the protocol: when each is allowed, and what it leaves. A step of one of seven kinds is made by a reader
 -- that is out, and changes one word and what that reader's seat knows. A split and a join change two seats.
-use Rattle.std.specs.Prelude.{◌≡◌, ◌≢◌, ℕ, ◌+◌, ◌-◌, ◌*◌, ◌<◌, ◌≤◌, Bool, true, false, not, nat_lt, ◌==◌, if◌then◌else◌, is_some, Option, Some, None, List, [], ◌∷◌, ◌++◌, length, map, filter, replicate, slice_get, slice_set}
+use Rattle.std.specs.Prelude.{◌≡◌, ℕ, ◌+◌, ◌-◌, ◌*◌, ◌<◌, ◌≤◌, true, false, not, nat_lt, ◌==◌, if◌then◌else◌, is_some, Option, Some, None, List, [], ◌∷◌, ◌++◌, length, map, filter, replicate, slice_get, slice_set}
 use Rattle.std.specs.List.{remove, range_with_len}
 use mathlib.Core.Option.{some}
 use lib.ListN.{get_elem?}

@@ -1,8 +1,7 @@
-use Rattle.std.proofs.Common.{◌≡◌, ◌∙◌, ◌<◌, ◌≤◌, ◌+◌, length, get_or, Bool, true, false, refl, ap, sym, arith, rules}
-use Rattle.std.proofs.lemmas.Bool.{false≢true, ltb-true, ltb-false}
-use Rattle.pin_core.specs.Replay.{is_listed, greatest_below}
-use Rattle.pin_core.specs.Book.{list_of, rows_of, IsShelved}
-use Rattle.pin_core.proofs.BookLemmas.{FoundAt, found, not_found, behind_row}
+use Rattle.std.proofs.Common.{◌≡◌, ◌∙◌, ◌<◌, ◌+◌, length, get_or, refl, ap, sym, arith, rules}
+use Rattle.std.proofs.lemmas.Bool.{false≢true, ltb-false}
+use Rattle.pin_core.specs.Book.{IsShelved}
+use Rattle.pin_core.proofs.BookLemmas.{found, not_found, behind_row}
 use Rattle.pin_core.proofs.book.Book.after.Goals as goal
 
 pub returns-in_default-clause-not_listed : goal.returns-in_default-clause-not_listed

@@ -1,8 +1,8 @@
-use Rattle.std.proofs.Common.{◌≡◌, ℕ, ◌+◌, ◌<◌, ◌≤◌, ◌∙◌, List, [], length, false, Some, None, ap, sym, subst, arith, ⊎_elim}
-use Rattle.std.proofs.lemmas.Bool.{false≢true, cases_lt}
+use Rattle.std.proofs.Common.{◌≡◌, ◌<◌, ◌∙◌, [], length, sym, subst, arith}
+use Rattle.std.proofs.lemmas.Bool.{false≢true}
 use Rattle.pin_core.specs.declared.listed.Listed.{Listed}
-use Rattle.pin_core.specs.Replay.{is_listed, greatest_below}
-use Rattle.pin_core.specs.Book.{Chronicle, list_of, IsBook, IsShelved}
+use Rattle.pin_core.specs.Replay.{greatest_below}
+use Rattle.pin_core.specs.Book.{Chronicle, list_of, IsShelved}
 use Rattle.pin_core.proofs.BookLemmas.{FoundAt, found, not_found, erase_shelved, has_behind, short_place}
 use Rattle.pin_core.proofs.book.Book.erase.Goals as goal
 

@@ -1,4 +1,4 @@
-use Rattle.std.proofs.Common.{◌≡◌, ◌∙◌, get_or, ap, sym}
+use Rattle.std.proofs.Common.{◌∙◌, get_or, ap}
 use Rattle.pin_core.specs.Book.{IsShelved}
 use Rattle.pin_core.proofs.BookLemmas.{first_row, shelf_nonempty}
 use Rattle.pin_core.proofs.book.Book.front.Goals as goal

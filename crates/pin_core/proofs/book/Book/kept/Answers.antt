@@ -1,4 +1,4 @@
-use Rattle.std.proofs.Common.{◌≡◌, ℕ, slice_index, arith, ◌∙◌, sym, ap}
+use Rattle.std.proofs.Common.{◌≡◌, arith, ◌∙◌}
 use Rattle.pin_core.specs.Book.{list_of, IsShelved}
 use Rattle.pin_core.proofs.KeptLemmas.{keeps_nothing}
 use Rattle.pin_core.proofs.book.Book.kept.Goals as goal

@@ -1,5 +1,5 @@
-use Rattle.std.proofs.Common.{◌≡◌, ℕ, ◌+◌, ◌<◌, ◌∙◌, List, length, length-set, ap, sym, subst, arith}
-use Rattle.pin_core.specs.Book.{Chronicle, list_of, IsBook, IsShelved}
+use Rattle.std.proofs.Common.{◌<◌, length, length-set, sym, subst, arith}
+use Rattle.pin_core.specs.Book.{Chronicle, list_of, IsShelved}
 use Rattle.pin_core.proofs.ReplayLemmas.{PushAsks}
 use Rattle.pin_core.proofs.BookLemmas.{push_asked, push_shelved, push_has_room, pushes_le}
 use Rattle.pin_core.proofs.book.Book.push.Goals as goal
