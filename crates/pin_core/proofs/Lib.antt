@@ -21,3 +21,5 @@ pub mod Readers
 pub mod Packing
 pub mod LawLemmas
 pub mod Places
+pub mod Seen
+pub mod Floors

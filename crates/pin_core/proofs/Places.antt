@@ -17,18 +17,13 @@ use Rattle.pin_core.specs.Replay.{replays}
 use Rattle.pin_core.specs.Core.{CoreState, front_number, front_slot, kept_number, number_at, count_at, total, one_if, times, pins_at, held_at, claims, has_claimed, has_number}
 use Rattle.pin_core.specs.Lawful.{Lawful, away}
 use Rattle.pin_core.specs.Step.{HasReader, MayTake, MayClaim, HasClaimed, claimed_after, MayStore, MaySplit, MayJoin, new_entry, loaded, pinned, unpinned, got_turn, was_refused, claiming, found_pinned, stored, gave_turn, load_front, add_pin, take_pin, take_turn, miss_turn, exchange_turn, claim_slot, miss_slot, store_front, give_turn, left_over, split_off, split, taken_in, join}
-use Rattle.pin_core.proofs.Sums.{at_set, total_kept, total_none, total-append, total-remove, terms_le}
+use Rattle.pin_core.proofs.Sums.{at_set, total_kept, total_none, total-append, total-remove, terms_le, total_zero}
 use Rattle.pin_core.proofs.Seats.{is_live, idle}
 use Rattle.pin_core.proofs.Stores.{has_own}
 use Rattle.pin_core.proofs.Splits.{inside_of, total_split}
 use Rattle.pin_core.proofs.Joins.{total_join}
 use Rattle.pin_core.proofs.Journals.{front_kept, kept_rises, kept_le, replays_take}
-use Rattle.pin_core.proofs.Readers.{claimer_lives, not_claimed}
-
--- a sum of nothing is nothing
-total_zero : {A : Type 0} (f : A → ℕ) (xs : List A) → ((id : ℕ) (x : A) → get_elem? xs id ≡ some x → f x ≡ 0) → total f xs ≡ 0
-total_zero f [] all = refl
-total_zero f (x ∷ xs) all = let here = all 0 x refl in let rest = total_zero f xs (λ id y at. all (suc id) y at) in omega arith
+use Rattle.pin_core.proofs.Readers.{claimer_lives, not_claimed, unclaimed}
 
 -- ---- what one seat keeps away ----
 
@@ -217,3 +212,7 @@ join_stays s id other slot reader v w h here there may =
     let none : has_claimed slot w ≡ 0 = not_claims slot w.claimed (λ claimed. both_ways w.turn may.turn ((h.turn.each other w there (λ spent. absurd (cc))).claims slot claimed)) in
     total_join (away slot reader) s.views id other v w both apart here there
     (let one = away_bare slot reader both (held_nothing slot both bare) in let two = away_bare slot reader w (held_nothing slot w may.unpinned) in let was = away_bare slot reader v (held_nothing slot v bare) in omega arith) refl
+
+-- who may claim a slot finds the number that it keeps
+pub claim_number : (s : CoreState) (id number slot : ℕ) (v : View) → Lawful s → HasReader s id number v → MayClaim s slot v → number_at s.words slot ≡ kept_number s.slots s.journal slot
+claim_number s id number slot v h has may = h.follows.kept slot may.inside (unclaimed s h slot (λ other u at _. none_claimed s id number v h has may.turn may.free slot other u at))

@@ -32,7 +32,7 @@ pub claimer_lives : (s : CoreState) → Lawful s → (id slot : ℕ) (u : View) 
 claimer_lives s h id slot u at claimed is = let same = ap (λ (x : View). x.claimed) (h.spent id u at is) in absurd (cc)
 
 -- a slot that no seat has claimed
-unclaimed : (s : CoreState) → Lawful s → (slot : ℕ) → ((id : ℕ) (u : View) → get_elem? s.views id ≡ some u → u.role ≢ roles.Spent → u.claimed ≢ Some slot) → total (has_claimed slot) s.views ≡ 0
+pub unclaimed : (s : CoreState) → Lawful s → (slot : ℕ) → ((id : ℕ) (u : View) → get_elem? s.views id ≡ some u → u.role ≢ roles.Spent → u.claimed ≢ Some slot) → total (has_claimed slot) s.views ≡ 0
 unclaimed s h slot none = by_count (total (has_claimed slot) s.views) refl
   where
     by_count : (n : ℕ) → total (has_claimed slot) s.views ≡ n → total (has_claimed slot) s.views ≡ 0

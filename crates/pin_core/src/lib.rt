@@ -35,8 +35,9 @@ pub use place_laws::{
     a_place_is_away_for_a_handle_or_a_claim, other_places_stay,
 };
 pub use reader_laws::{
-    a_handle_keeps_its_slot, a_held_slot_is_not_claimed, a_stray_tells_of_more_writes,
-    allowances_have_room, each_write_stands_once, seen_journals_are_parts_of_one,
+    a_claim_meets_the_kept_number, a_handle_keeps_its_slot, a_held_slot_is_not_claimed,
+    a_stray_tells_of_more_writes, allowances_have_room, each_write_stands_once,
+    nothing_seen_is_forgotten, seen_journals_are_parts_of_one, the_floor_moves_under_no_reader,
     the_turn_has_one_holder,
 };
 pub use replay_laws::{
