@@ -23,3 +23,4 @@ pub mod LawLemmas
 pub mod Places
 pub mod Seen
 pub mod Floors
+pub mod Strays

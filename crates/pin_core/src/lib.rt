@@ -46,8 +46,8 @@ pub use replay_laws::{
     slots_keep_what_was_pushed_last,
 };
 pub use run_laws::{
-    lawful_states_stay_lawful, no_slot_is_claimed_under_a_handle, reached_states_are_lawful,
-    the_opening_is_lawful, the_opening_with_all_readers_is_lawful,
+    lawful_states_stay_lawful, no_slot_is_claimed_under_a_handle, no_stray_stands_beside_a_handle,
+    reached_states_are_lawful, the_opening_is_lawful, the_opening_with_all_readers_is_lawful,
 };
 pub use step_laws::{
     a_claim_keeps_states_lawful, a_join_keeps_states_lawful, a_load_keeps_states_lawful,
