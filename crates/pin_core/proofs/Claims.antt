@@ -1,21 +1,21 @@
 -- A claim that finds no pin, and one that finds some, keep states lawful.
-use Rattle.std.proofs.Common.{◌≡◌, ◌≢◌, ◌⊎◌, ℕ, zero, suc, ◌+◌, ◌≤◌, ◌<◌, List, [], ◌∷◌, length, take, set, get_or, sym, refl, ap, ◌∙◌, subst, ⊎_elim, arith, Bool, true, false, ◌==◌, eqb, eq-eqb, ne_eqb, Option, Some, None}
+use Rattle.std.proofs.Common.{◌≤◌, ◌≡◌, ◌≢◌, ℕ, ◌+◌, ◌<◌, List, [], ◌∷◌, length, set, get_or, sym, refl, ap, ◌∙◌, subst, ⊎_elim, arith, true, false, ◌==◌, eq-eqb, ne_eqb, Some}
 use Rattle.std.specs.Prelude.{nat_lt}
 use mathlib.Core.Option.{some}
 use lib.ListN.{get_elem?}
 use Rattle.std.specs.List.{All}
 use Rattle.std.proofs.lemmas.Bool.{cond_both, cases_eq, eqb-true, eqb-false}
 use Rattle.std.proofs.lemmas.List.{length-set}
-use Rattle.std.proofs.lemmas.List.Elements.{All-nil, All-cons, All-head, All-tail, All-weaker}
+use Rattle.std.proofs.lemmas.List.Elements.{All-nil, All-cons, All-head, All-tail}
 use Rattle.pin_core.specs.declared.entry.Entry.{Entry}
 use Rattle.pin_core.specs.declared.entry.SlotWord.{SlotWord}
 use Rattle.pin_core.specs.declared.write.Write.{Write}
 use Rattle.pin_core.specs.declared.view.View.{View}
 use Rattle.pin_core.specs.declared.view.Role.TheVariants as roles
-use Rattle.pin_core.specs.Core.{CoreState, front_number, front_slot, is_taken, number_at, count_at, total, one_if, pins_at, claims, has_claimed, has_turn, allowance_of, IsReader}
-use Rattle.pin_core.specs.Lawful.{Lawful, IsKept, WasFront, WasFrontOnce, KnowsTurn, KeepsHandles}
+use Rattle.pin_core.specs.Core.{CoreState, front_number, is_taken, number_at, count_at, total, one_if, pins_at, claims, has_claimed, has_turn, allowance_of}
+use Rattle.pin_core.specs.Lawful.{Lawful, WasFront, WasFrontOnce, KeepsHandles}
 use Rattle.pin_core.specs.Step.{HasReader, MayClaim, claiming, claim_slot, with_number, found_pinned, miss_slot, claim}
-use Rattle.pin_core.proofs.Sums.{total_kept, total-set, total_none, total_some, term_le}
+use Rattle.pin_core.proofs.Sums.{total_kept, total-set, total_none, total_some}
 use Rattle.pin_core.proofs.Words.{count_here, count_else, number_here, number_else}
 use Rattle.pin_core.proofs.Seats.{each_set, is_live, idle, owners_kept, spent_kept}
 use Rattle.pin_core.proofs.Loads.{seen_within}
@@ -103,6 +103,10 @@ entry_there slot (e ∷ es) more P all =
     ⊎_elim (λ (is : e.slot ≡ slot). (e, is, All-head P e es all))
     (λ (no : e.slot ≢ slot). let zero = ap one_if (ne_eqb e.slot slot no) in entry_there slot es (omega arith) P (All-tail P e es all)) (cases_eq e.slot slot)
 
+-- the slot of an entry was the front's once
+was_once : (slots : ℕ) (journal : List Write) (floor seen slot : ℕ) (e : Entry) → WasFront slots journal floor seen e → e.slot ≡ slot → seen ≤ length journal → WasFrontOnce slots journal floor slot
+was_once slots journal floor seen slot e was is within = let told = was.told in (e.position, was.late, omega arith, sym is ∙ was.front)
+
 pub claims_pinned : (s : CoreState) (id number : ℕ) (v : View) (slot : ℕ) → Lawful s → HasReader s id number v → MayClaim s slot v → 0 < count_at s.words slot → Lawful (miss_slot s id v slot)
 claims_pinned s id number v slot h has may some_pin =
     let here = has.here in let live = is_live number v has.reader in let w : View = found_pinned slot v in
@@ -113,7 +117,7 @@ claims_pinned s id number v slot h has may some_pin =
     let theirs = h.places seat.0 seat.1 seat.2 lives in
     let told = seen_within s.journal seat.1.seen (h.owners.each seat.0 seat.1 seat.2 lives).seen in
     let found = entry_there slot seat.1.entries seat.3 (WasFront s.slots s.journal s.floor (length seat.1.seen)) theirs.entries in
-    let once : WasFrontOnce s.slots s.journal s.floor slot = (let was = found.2.told in (found.0.position, found.2.late, omega arith, sym found.1 ∙ found.2.front)) in
+    let once = was_once s.slots s.journal s.floor (length seat.1.seen) slot found.0 found.2 found.1 told in
     record {
       pins = λ slot inside. h.pins slot inside ∙ sym (total_kept (pins_at slot) s.views id v w here refl);
       spent = spent_kept s.views id w live h.spent;

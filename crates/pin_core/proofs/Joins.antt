@@ -61,7 +61,7 @@ each_join P views id other both mine others j u at live =
     (at_set (set views id both) other j spent u at)
 
 -- a sum stays where what both know counts what the two counted
-total_join : (f : View → ℕ) (views : List View) (id other : ℕ) (v w both : View) → other ≢ id → get_elem? views id ≡ some v → get_elem? views other ≡ some w → f both ≡ f v + f w → f spent ≡ 0
+pub total_join : (f : View → ℕ) (views : List View) (id other : ℕ) (v w both : View) → other ≢ id → get_elem? views id ≡ some v → get_elem? views other ≡ some w → f both ≡ f v + f w → f spent ≡ 0
     → total f (set (set views id both) other spent) ≡ total f views
 total_join f views id other v w both apart here there sum none =
     let first = total-set f views id v both here in let second = total-set f (set views id both) other w spent (set_else views id other both apart ∙ there) in omega arith

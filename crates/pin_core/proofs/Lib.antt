@@ -20,3 +20,7 @@ pub mod Runs
 pub mod Readers
 pub mod Packing
 pub mod LawLemmas
+pub mod Places
+pub mod Seen
+pub mod Floors
+pub mod Strays

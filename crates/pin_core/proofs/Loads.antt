@@ -1,14 +1,10 @@
 -- A load of the front word keeps states lawful.
-use Rattle.std.proofs.Common.{◌≡◌, ◌≢◌, ℕ, ◌+◌, ◌≤◌, ◌<◌, List, [], ◌∷◌, length, take, set, sym, refl, ap, ◌∙◌, subst, arith, true, false}
-use mathlib.Core.Option.{some}
-use lib.ListN.{get_elem?}
+use Rattle.std.proofs.Common.{◌≡◌, ℕ, ◌≤◌, List, length, take, sym, refl, ap, ◌∙◌, arith}
 use Rattle.std.proofs.lemmas.List.{take_all, length-take}
 use Rattle.std.proofs.lemmas.List.Elements.{All-weaker}
-use Rattle.pin_core.specs.declared.entry.Entry.{Entry}
 use Rattle.pin_core.specs.declared.write.Write.{Write}
 use Rattle.pin_core.specs.declared.view.View.{View}
-use Rattle.pin_core.specs.Sequence.{writes_by}
-use Rattle.pin_core.specs.Core.{CoreState, total, pins_at, has_number, number_count, has_turn, has_claimed, is_main, allowance_of}
+use Rattle.pin_core.specs.Core.{CoreState, pins_at, has_turn, has_claimed, allowance_of}
 use Rattle.pin_core.specs.Lawful.{Lawful, WasFront}
 use Rattle.pin_core.specs.Step.{HasReader, loaded, load_front}
 use Rattle.pin_core.proofs.Sums.{total_kept}

@@ -1,5 +1,5 @@
 -- The opening state is lawful.
-use Rattle.std.proofs.Common.{◌≡◌, ◌≢◌, ◌⊎◌, ℕ, zero, suc, ◌+◌, ◌*◌, ◌≤◌, ◌<◌, List, [], ◌∷◌, length, map, set, replicate, suc-mul, get_or, sym, refl, ap, ◌∙◌, subst, ⊎_elim, arith, Bool, true, false, ◌==◌, eq-eqb, ne_eqb, Option, Some, None}
+use Rattle.std.proofs.Common.{◌≡◌, ◌≢◌, ℕ, zero, suc, ◌+◌, ◌*◌, ◌≤◌, ◌<◌, List, [], ◌∷◌, length, map, set, replicate, suc-mul, get_or, sym, refl, ap, ◌∙◌, subst, ⊎_elim, arith, eq-eqb, ne_eqb}
 use mathlib.Core.Option.{some, some-injective, some-ne-none}
 use lib.ListN.{get_elem?}
 use Rattle.std.specs.List.{All, range_with_len}
@@ -12,7 +12,7 @@ use Rattle.pin_core.specs.declared.write.Write.{Write}
 use Rattle.pin_core.specs.declared.view.View.{View}
 use Rattle.pin_core.specs.declared.view.Role.TheVariants as roles
 use Rattle.pin_core.specs.Replay.{opening}
-use Rattle.pin_core.specs.Core.{CoreState, kept_number, number_at, count_at, one_if, times, total, has_number, number_count, is_main, has_turn, pins_at, allowance_of, spent, EachSeat}
+use Rattle.pin_core.specs.Core.{kept_number, number_at, count_at, one_if, times, total, has_number, number_count, is_main, has_turn, pins_at, allowance_of, spent, EachSeat}
 use Rattle.pin_core.specs.Lawful.{Lawful, IsKept, WasFront, WasFrontOnce}
 use Rattle.pin_core.specs.Step.{main_at_first, opening_state, reader_at_first, opening_with_readers}
 use Rattle.pin_core.proofs.Words.{count_here, count_else, number_here, number_else}

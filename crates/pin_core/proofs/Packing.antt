@@ -1,5 +1,5 @@
 -- Words of lawful states are small, and what is packed can be read back.
-use Rattle.std.proofs.Common.{◌≡◌, ◌≢◌, ◌⊎◌, ℕ, zero, suc, ◌+◌, ◌*◌, ◌/◌, ◌%◌, ◌^◌, ◌≤◌, ◌<◌, List, [], ◌∷◌, ◌++◌, length, sym, refl, ap, ◌∙◌, subst, ⊎_elim, arith, Bool, true, false, ◌==◌, Option, Some, None}
+use Rattle.std.proofs.Common.{◌≡◌, ℕ, zero, suc, ◌+◌, ◌*◌, ◌/◌, ◌%◌, ◌^◌, ◌≤◌, ◌<◌, List, [], ◌∷◌, length, refl, ap, arith, true, ◌==◌}
 use mathlib.Core.Option.{some}
 use lib.ListN.{get_elem?}
 use Rattle.std.proofs.lemmas.List.{length-append}
@@ -12,7 +12,7 @@ use Rattle.pin_core.specs.declared.write.Change.{Change}
 use Rattle.pin_core.specs.declared.write.Change.TheVariants.{Push, Erase}
 use Rattle.pin_core.specs.Replay.{replays}
 use Rattle.pin_core.specs.Pushes.{pushed_by, pushes}
-use Rattle.pin_core.specs.Core.{CoreState, Front, front_number, front_slot, kept_number, number_at, count_at, total, one_if, pins_at, has_claimed, number_count}
+use Rattle.pin_core.specs.Core.{CoreState, Front, front_number, number_at, count_at, total, one_if, pins_at, has_claimed, number_count}
 use Rattle.pin_core.specs.Lawful.{Lawful}
 use Rattle.pin_core.specs.Packing.{packed_slot, packed_front, place, book_place}
 use Rattle.pin_core.proofs.Sums.{total_some, one_if-le}

@@ -1,20 +1,17 @@
 -- A pin that is added, and one that is taken off, keep states lawful.
-use Rattle.std.proofs.Common.{◌≡◌, ◌≢◌, ◌⊎◌, ℕ, suc, ◌+◌, ◌-◌, ◌*◌, ◌≤◌, ◌<◌, List, [], ◌∷◌, ◌++◌, length, take, drop, set, get_or, sym, refl, ap, ◌∙◌, subst, ⊎_elim, arith, Bool, true, false, not, ◌==◌, eq-eqb, ne_eqb, Option, Some, None}
-use Rattle.std.specs.Prelude.{slice_get}
-use mathlib.Core.Option.{some}
-use lib.ListN.{get_elem?}
+use Rattle.std.proofs.Common.{◌≡◌, ◌≢◌, ℕ, suc, ◌+◌, ◌-◌, ◌<◌, List, [], ◌∷◌, length, take, drop, set, get_or, sym, refl, ap, ◌∙◌, subst, ⊎_elim, arith, Bool, true, false, not, ◌==◌, eq-eqb, ne_eqb}
 use Rattle.std.specs.List.{remove, All}
 use Rattle.std.proofs.lemmas.Bool.{cases_eq, eqb-true}
 use Rattle.std.proofs.lemmas.Option.{slice_get_within, get_or_from_slice_get}
-use Rattle.std.proofs.lemmas.List.{length-set, length_push, take_all}
+use Rattle.std.proofs.lemmas.List.{length-set, length_push}
 use Rattle.std.proofs.lemmas.List.Edits.{length-remove}
-use Rattle.std.proofs.lemmas.List.Elements.{All-push, All-append, All-take, All-drop, All-get_or}
+use Rattle.std.proofs.lemmas.List.Elements.{All-push, All-append, All-take, All-drop}
 use Rattle.pin_core.specs.declared.entry.Entry.{Entry}
 use Rattle.pin_core.specs.declared.entry.SlotWord.{SlotWord}
 use Rattle.pin_core.specs.declared.write.Write.{Write}
 use Rattle.pin_core.specs.declared.view.View.{View}
-use Rattle.pin_core.specs.Core.{CoreState, front_number, front_slot, number_at, count_at, total, one_if, pins_at, has_claimed, has_turn, allowance_of, held_count, stray_count, IsReader}
-use Rattle.pin_core.specs.Lawful.{Lawful, IsKept, WasFront, KnowsTurn, HasOneTurn, KeepsHandles}
+use Rattle.pin_core.specs.Core.{CoreState, front_number, front_slot, number_at, count_at, total, one_if, pins_at, has_claimed, has_turn, allowance_of}
+use Rattle.pin_core.specs.Lawful.{Lawful, IsKept, WasFront, HasOneTurn, KeepsHandles}
 use Rattle.pin_core.specs.Step.{HasReader, MayPin, MayTake, new_entry, pinned, with_count, add_pin, unpinned, take_pin}
 use Rattle.pin_core.proofs.Sums.{total_kept, total-set, total-append, total-remove, term_le}
 use Rattle.pin_core.proofs.Journals.{front_slot_inside, replays_take}

@@ -1,22 +1,20 @@
 -- What a lawful state promises each reader.
-use Rattle.std.proofs.Common.{◌≡◌, ◌≢◌, ◌⊎◌, ℕ, zero, suc, ◌+◌, ◌≤◌, ◌<◌, min, List, [], ◌∷◌, ◌++◌, length, take, get_or, sym, refl, ap, ◌∙◌, subst, ⊎_elim, inl, inr, arith, Bool, true, false, ◌==◌, ◌&&◌, eq-eqb, ne_eqb, Option, Some, None}
+use Rattle.std.proofs.Common.{◌≡◌, ◌≢◌, ◌⊎◌, ℕ, zero, suc, ◌+◌, ◌≤◌, ◌<◌, List, [], ◌∷◌, length, take, get_or, sym, refl, ap, ◌∙◌, subst, ⊎_elim, arith, true, false, ◌==◌, ◌&&◌, eq-eqb, ne_eqb, Option, Some, None}
 use Rattle.std.specs.Prelude.{is_some, slice_get}
 use mathlib.Core.Option.{some}
 use lib.ListN.{get_elem?}
-use Rattle.std.specs.List.{All, Contains}
+use Rattle.std.specs.List.{Contains}
 use Rattle.std.proofs.lemmas.Bool.{cases_eq, cases_lt, cases_order, cases_Bool, cond-true, cond-false, eqb-true, and_parts, both_ways, false_from_ne_true}
-use Rattle.std.proofs.lemmas.Option.{slice_get_within}
-use Rattle.std.proofs.lemmas.List.{take_all, take-take, length-take}
+use Rattle.std.proofs.lemmas.List.{take_all, take-take}
 use Rattle.std.proofs.lemmas.List.Elements.{All-contains}
 use Rattle.pin_core.specs.declared.entry.Entry.{Entry}
 use Rattle.pin_core.specs.declared.write.Write.{Write}
 use Rattle.pin_core.specs.declared.view.View.{View}
-use Rattle.pin_core.specs.declared.view.Role.{Role}
 use Rattle.pin_core.specs.declared.view.Role.TheVariants as roles
 use Rattle.pin_core.specs.Sequence.{writes_by, counts_from, IsCounted}
-use Rattle.pin_core.specs.Core.{CoreState, front_number, front_slot, kept_number, is_taken, number_at, count_at, total, one_if, pins_at, claims, has_claimed, has_turn, has_number, allowance_of, IsReader}
+use Rattle.pin_core.specs.Core.{CoreState, front_number, front_slot, kept_number, is_taken, number_at, count_at, total, one_if, pins_at, claims, has_claimed, has_turn, allowance_of}
 use Rattle.pin_core.specs.Lawful.{Lawful, IsKept, WasFront, entry_number}
-use Rattle.pin_core.specs.Step.{HasReader, MayClaim, claim, claim_slot, miss_slot}
+use Rattle.pin_core.specs.Step.{HasReader, claim, claim_slot, miss_slot}
 use Rattle.pin_core.proofs.Sums.{total_some, total_none, term_le}
 use Rattle.pin_core.proofs.Journals.{replays_take, front_slot_inside, front_kept, front_taken, kept_le, kept_rises}
 use Rattle.pin_core.proofs.Seats.{is_live, idle}
@@ -34,7 +32,7 @@ pub claimer_lives : (s : CoreState) → Lawful s → (id slot : ℕ) (u : View) 
 claimer_lives s h id slot u at claimed is = let same = ap (λ (x : View). x.claimed) (h.spent id u at is) in absurd (cc)
 
 -- a slot that no seat has claimed
-unclaimed : (s : CoreState) → Lawful s → (slot : ℕ) → ((id : ℕ) (u : View) → get_elem? s.views id ≡ some u → u.role ≢ roles.Spent → u.claimed ≢ Some slot) → total (has_claimed slot) s.views ≡ 0
+pub unclaimed : (s : CoreState) → Lawful s → (slot : ℕ) → ((id : ℕ) (u : View) → get_elem? s.views id ≡ some u → u.role ≢ roles.Spent → u.claimed ≢ Some slot) → total (has_claimed slot) s.views ≡ 0
 unclaimed s h slot none = by_count (total (has_claimed slot) s.views) refl
   where
     by_count : (n : ℕ) → total (has_claimed slot) s.views ≡ n → total (has_claimed slot) s.views ≡ 0

@@ -1,7 +1,5 @@
 -- What steps reach from the opening is lawful.
-use Rattle.std.proofs.Common.{◌≡◌, ℕ, ◌<◌, true}
-use mathlib.Core.Option.{some}
-use lib.ListN.{get_elem?}
+use Rattle.std.proofs.Common.{ℕ, ◌<◌}
 use Rattle.pin_core.specs.Core.{CoreState}
 use Rattle.pin_core.specs.Lawful.{Lawful}
 use Rattle.pin_core.specs.Step.{opening_state}

@@ -1,13 +1,12 @@
 -- Facts of each seat, after one seat knows something else.
-use Rattle.std.proofs.Common.{◌≡◌, ◌≢◌, ◌⊎◌, ℕ, ◌+◌, ◌≤◌, ◌<◌, List, [], ◌∷◌, ◌++◌, set, length, sym, refl, ap, ◌∙◌, subst, ⊎_elim, inl, inr, arith, Bool, true, false}
+use Rattle.std.proofs.Common.{◌≡◌, ◌≢◌, ℕ, List, set, length, ap, ◌∙◌, subst, ⊎_elim, arith, true}
 use mathlib.Core.Option.{some}
 use lib.ListN.{get_elem?}
 use Rattle.pin_core.specs.declared.view.View.{View}
-use Rattle.pin_core.specs.declared.view.Role.{Role}
 use Rattle.pin_core.specs.declared.view.Role.TheVariants as roles
 use Rattle.std.specs.Prelude.{Option, is_some}
 use Rattle.pin_core.specs.declared.write.Write.{Write}
-use Rattle.pin_core.specs.Core.{total, one_if, times, mains, has_number, number_count, has_turn, is_main, EachSeat, IsReader}
+use Rattle.pin_core.specs.Core.{one_if, times, mains, has_number, number_count, has_turn, is_main, EachSeat, IsReader}
 use Rattle.pin_core.specs.Lawful.{HasOneTurn, HasOneOwner, KnowsWrites, SpentKnowNothing}
 use Rattle.pin_core.proofs.Sums.{at_set, terms_le, one_if-le, total_kept}
 

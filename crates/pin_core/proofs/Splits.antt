@@ -1,5 +1,5 @@
 -- A split keeps states lawful.
-use Rattle.std.proofs.Common.{◌≡◌, ◌≢◌, ◌⊎◌, ℕ, zero, suc, ◌+◌, ◌-◌, ◌*◌, ◌≤◌, ◌<◌, List, [], ◌∷◌, ◌++◌, length, take, set, get_or, sym, refl, ap, ◌∙◌, subst, ⊎_elim, arith, Bool, true, false, not, cond, ◌==◌, eq-eqb, ne_eqb, Option, Some, None}
+use Rattle.std.proofs.Common.{◌≡◌, ◌≢◌, ℕ, ◌+◌, ◌≤◌, ◌<◌, List, [], ◌∷◌, ◌++◌, length, set, get_or, sym, refl, ap, ◌∙◌, subst, ⊎_elim, arith, true, not, cond, ◌==◌, eq-eqb, ne_eqb}
 use mathlib.Core.Option.{some}
 use lib.ListN.{get_elem?}
 use Rattle.std.specs.List.{All, filter}
@@ -11,8 +11,8 @@ use Rattle.pin_core.specs.declared.view.View.{View}
 use Rattle.pin_core.specs.declared.view.Role.{Role}
 use Rattle.pin_core.specs.declared.view.Role.TheVariants as roles
 use Rattle.pin_core.specs.Sequence.{writes_by}
-use Rattle.pin_core.specs.Core.{CoreState, number_at, count_at, total, one_if, times, has_number, number_count, is_main, mains, pins_at, has_claimed, has_turn, allowance_of, EachSeat}
-use Rattle.pin_core.specs.Lawful.{Lawful, IsKept, WasFront, WasFrontOnce, KnowsPlaces, KnowsWrites}
+use Rattle.pin_core.specs.Core.{CoreState, number_at, total, one_if, times, has_number, number_count, is_main, mains, pins_at, has_claimed, has_turn, allowance_of, EachSeat}
+use Rattle.pin_core.specs.Lawful.{Lawful, IsKept, WasFront, WasFrontOnce, KnowsPlaces}
 use Rattle.pin_core.specs.Step.{MaySplit, floor_after, left_over, split_off, split}
 use Rattle.pin_core.proofs.Sums.{at_set, at_push, total-set, total-append, terms_le}
 use Rattle.pin_core.proofs.Stores.{all_pass}
@@ -67,7 +67,7 @@ each_split P views id left right one two others j u at live =
     (λ (new : right ≡ u). subst P new two) (at_push (set views id left) right u j at)
 
 -- a sum stays where what the two count is what the one counted
-total_split : (f : View → ℕ) (views : List View) (id : ℕ) (v left right : View) → get_elem? views id ≡ some v → f left + f right ≡ f v → total f (set views id left ++ right ∷ []) ≡ total f views
+pub total_split : (f : View → ℕ) (views : List View) (id : ℕ) (v left right : View) → get_elem? views id ≡ some v → f left + f right ≡ f v → total f (set views id left ++ right ∷ []) ≡ total f views
 total_split f views id v left right at same = let sum = total-set f views id v left at in let more = total-append f (set views id left) (right ∷ []) in omega arith
 
 -- while the main has all numbers, every other seat is spent

@@ -1,26 +1,25 @@
 -- A store of the front word keeps states lawful.
-use Rattle.std.proofs.Common.{◌≡◌, ◌≢◌, ◌⊎◌, ℕ, zero, suc, ◌+◌, ◌-◌, ◌≤◌, ◌<◌, List, [], ◌∷◌, ◌++◌, length, take, set, get_or, sym, refl, ap, ◌∙◌, subst, ⊎_elim, arith, Bool, true, false, ◌==◌, ◌&&◌, eq-eqb, ne_eqb, cond, Option, Some, None}
+use Rattle.std.proofs.Common.{◌≡◌, ◌≢◌, ℕ, ◌+◌, ◌≤◌, ◌<◌, List, [], ◌∷◌, ◌++◌, length, take, set, get_or, sym, refl, ap, ◌∙◌, subst, ⊎_elim, arith, Bool, true, false, ◌==◌, eq-eqb, ne_eqb, Option, Some}
 use mathlib.Core.Option.{some}
 use lib.ListN.{get_elem?}
 use Rattle.std.specs.List.{All, filter}
-use Rattle.std.proofs.lemmas.Bool.{cases_eq, cond-true, cond-false, and_from, and_parts}
-use Rattle.std.proofs.lemmas.List.{take_all, length_push, length-append, take-append-le, append-nil}
+use Rattle.std.proofs.lemmas.Bool.{cases_eq, cond-true}
+use Rattle.std.proofs.lemmas.List.{take_all, length_push, take-append-le}
 use Rattle.std.proofs.lemmas.List.Elements.{All-push, All-weaker, All-head, All-tail, filter-append}
 use Rattle.pin_core.specs.declared.entry.Entry.{Entry}
 use Rattle.pin_core.specs.declared.write.Write.{Write}
 use Rattle.pin_core.specs.declared.write.Change.{Change}
 use Rattle.pin_core.specs.declared.write.Change.TheVariants.{Push, Erase}
 use Rattle.pin_core.specs.declared.view.View.{View}
-use Rattle.pin_core.specs.declared.view.Role.TheVariants as roles
 use Rattle.pin_core.specs.Replay.{replays, allowed, state_after}
-use Rattle.pin_core.specs.Sequence.{writes_by, counts_from, IsCounted}
-use Rattle.pin_core.specs.Core.{CoreState, front_number, front_slot, kept_number, is_taken, number_at, count_at, total, one_if, times, has_number, number_count, is_main, pins_at, claims, has_claimed, has_turn, allowance_of, IsReader}
-use Rattle.pin_core.specs.Lawful.{Lawful, IsKept, WasFront, WasFrontOnce, KnowsTurn, KnowsWrites, KnowsPlaces, KeepsHandles}
-use Rattle.pin_core.specs.Step.{HasReader, MayStore, HasClaimed, claimed_after, stored, front_after, store_front}
+use Rattle.pin_core.specs.Sequence.{writes_by}
+use Rattle.pin_core.specs.Core.{CoreState, front_number, front_slot, kept_number, is_taken, number_at, total, one_if, times, has_number, number_count, is_main, pins_at, claims, has_claimed, has_turn, allowance_of}
+use Rattle.pin_core.specs.Lawful.{Lawful, WasFront, WasFrontOnce, KnowsWrites, KnowsPlaces, KeepsHandles}
+use Rattle.pin_core.specs.Step.{HasReader, MayStore, HasClaimed, claimed_after, stored, store_front}
 use Rattle.pin_core.proofs.Sums.{total_kept, total-set, terms_le}
 use Rattle.pin_core.proofs.SequenceLemmas.{writes_by_other, counted_push}
 use Rattle.pin_core.proofs.Journals.{replays_push, pushed, erased}
-use Rattle.pin_core.proofs.Seats.{each_set, is_live, idle, owners_kept, spent_kept}
+use Rattle.pin_core.proofs.Seats.{each_set, is_live, idle, spent_kept}
 use Rattle.pin_core.proofs.Loads.{seen_within}
 
 -- ---- the writes of each number after one more ----

@@ -1,9 +1,9 @@
 -- Sums over lists that change at one place, grow or are cut.
-use Rattle.std.proofs.Common.{◌≡◌, ◌≢◌, ◌⊎◌, ℕ, zero, suc, ◌+◌, ◌≤◌, ◌<◌, List, [], ◌∷◌, ◌++◌, set, take, drop, length, get_or, sym, refl, ap, ◌∙◌, subst, ⊎_elim, inl, inr, arith, Bool, true, false, not, cond, ◌==◌, eq-eqb, ne_eqb, eqb}
+use Rattle.std.proofs.Common.{◌≡◌, ◌≢◌, ◌⊎◌, ℕ, zero, suc, ◌+◌, ◌≤◌, ◌<◌, List, [], ◌∷◌, ◌++◌, set, length, get_or, sym, refl, ap, ⊎_elim, inl, inr, arith, Bool, true, false}
 use mathlib.Core.Option.{some, some-injective, some-ne-none}
 use lib.ListN.{get_elem?}
-use Rattle.std.specs.List.{remove, filter}
-use Rattle.pin_core.specs.Core.{total, one_if, times}
+use Rattle.std.specs.List.{remove}
+use Rattle.pin_core.specs.Core.{total, one_if}
 
 module _ {A : Type 0} where
   pub at_set : (l : List A) (i j : ℕ) (a b : A) → get_elem? (set l i a) j ≡ some b → ((j ≡ i) × (a ≡ b)) ⊎ ((j ≢ i) × (get_elem? l j ≡ some b))
@@ -68,6 +68,17 @@ module _ {A : Type 0} where
     pub total_some : (xs : List A) → 0 < total f xs → (j : ℕ) × (x : A) × (get_elem? xs j ≡ some x) × (0 < f x)
     total_some [] more = absurd (omega arith)
     total_some (x ∷ xs) more = some_here x xs (f x) refl more (total_some xs)
+
+  -- a sum of nothing is nothing
+  pub total_zero : (f : A → ℕ) (xs : List A) → ((j : ℕ) (x : A) → get_elem? xs j ≡ some x → f x ≡ 0) → total f xs ≡ 0
+  total_zero f [] all = refl
+  total_zero f (x ∷ xs) all = let here = all 0 x refl in let rest = total_zero f xs (λ j y at. all (suc j) y at) in omega arith
+
+  -- a sum to which one element alone adds
+  pub total_alone : (f : A → ℕ) (xs : List A) (i : ℕ) (x : A) → get_elem? xs i ≡ some x → ((j : ℕ) (y : A) → j ≢ i → get_elem? xs j ≡ some y → f y ≡ 0) → total f xs ≡ f x
+  total_alone f [] i x at none = absurd (some-ne-none x (sym at))
+  total_alone f (y ∷ ys) zero x at none = let same = ap f (some-injective y x at) in let rest = total_zero f ys (λ j z there. none (suc j) z (λ e. omega arith) there) in omega arith
+  total_alone f (y ∷ ys) (suc i) x at none = let first = none 0 y (λ e. omega arith) refl in let rest = total_alone f ys i x at (λ j z apart there. none (suc j) z (λ e. apart (omega arith)) there) in omega arith
 
   -- two functions that agree at each element have one sum
   pub total_agree : (f g : A → ℕ) → ((x : A) → f x ≡ g x) → (xs : List A) → total f xs ≡ total g xs

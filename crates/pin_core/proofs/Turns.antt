@@ -1,16 +1,14 @@
 -- The turn that is taken, found taken, and given back, keeps states lawful.
-use Rattle.std.proofs.Common.{◌≡◌, ◌≢◌, ◌⊎◌, ℕ, ◌+◌, ◌≤◌, ◌<◌, List, [], ◌∷◌, length, take, set, sym, refl, ap, ◌∙◌, subst, ⊎_elim, arith, Bool, true, false, Option, Some, None}
+use Rattle.std.proofs.Common.{◌≡◌, ◌≢◌, ℕ, length, sym, refl, ap, ◌∙◌, arith, true, false, Option, Some, None}
 use Rattle.std.specs.Prelude.{is_some}
 use mathlib.Core.Option.{some}
 use lib.ListN.{get_elem?}
-use Rattle.std.specs.List.{All}
 use Rattle.std.proofs.lemmas.Bool.{cond_both}
 use Rattle.std.proofs.lemmas.List.{take_all}
 use Rattle.std.proofs.lemmas.List.Elements.{All-nil, All-weaker}
-use Rattle.pin_core.specs.declared.write.Write.{Write}
 use Rattle.pin_core.specs.declared.view.View.{View}
-use Rattle.pin_core.specs.Core.{CoreState, total, one_if, pins_at, has_claimed, has_turn, allowance_of, IsReader}
-use Rattle.pin_core.specs.Lawful.{Lawful, WasFront, WasFrontOnce, KnowsTurn}
+use Rattle.pin_core.specs.Core.{CoreState, total, one_if, pins_at, has_claimed, has_turn, allowance_of}
+use Rattle.pin_core.specs.Lawful.{Lawful, WasFront, WasFrontOnce}
 use Rattle.pin_core.specs.Step.{HasReader, MayTakeTurn, MayGive, got_turn, was_refused, take_turn, miss_turn, exchange_turn, gave_turn, give_turn}
 use Rattle.pin_core.proofs.Sums.{total_kept, total-set, total_none, one_if-le}
 use Rattle.pin_core.proofs.Seats.{each_set, is_live, idle, owners_kept, spent_kept}

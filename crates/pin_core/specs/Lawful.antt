@@ -1,16 +1,15 @@
 -- When a state is lawful. Each part stands alone and can be read alone. Each is one of three kinds: a sum over all
 -- seats, a fact of each seat against what is shared, or a fact of what is shared alone.
-use Rattle.std.specs.Prelude.{◌≡◌, ◌≢◌, ℕ, ◌+◌, ◌*◌, ◌≤◌, ◌<◌, Bool, true, false, ◌==◌, if◌then◌else◌, is_some, Option, Some, None, List, [], ◌∷◌, length, take, All}
+use Rattle.std.specs.Prelude.{◌≡◌, ℕ, ◌+◌, ◌*◌, ◌≤◌, ◌<◌, true, false, ◌==◌, if◌then◌else◌, is_some, Option, Some, None, List, [], ◌∷◌, length, take, All}
 use mathlib.Core.Option.{some}
 use lib.ListN.{get_elem?}
 use Rattle.pin_core.specs.declared.write.Write.{Write}
 use Rattle.pin_core.specs.declared.entry.Entry.{Entry}
-use Rattle.pin_core.specs.declared.entry.SlotWord.{SlotWord}
 use Rattle.pin_core.specs.declared.view.View.{View}
 use Rattle.pin_core.specs.declared.view.Role.TheVariants as roles
 use Rattle.pin_core.specs.Replay.{replays}
 use Rattle.pin_core.specs.Sequence.{writes_by, IsCounted}
-use Rattle.pin_core.specs.Core.{CoreState, Front, front_number, front_slot, kept_number, is_taken, number_at, count_at, one_if, total, times, pins_at, held_at, has_number, number_count, has_turn, has_claimed, is_main, allowance_of, spent, EachSeat}
+use Rattle.pin_core.specs.Core.{CoreState, front_number, front_slot, kept_number, is_taken, number_at, count_at, one_if, total, pins_at, held_at, has_number, number_count, has_turn, has_claimed, is_main, allowance_of, spent, EachSeat}
 
 -- ---- (a) the pins ----
 

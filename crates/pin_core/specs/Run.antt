@@ -1,6 +1,5 @@
 -- Whole runs: steps that are allowed, in any order and by any seats, from the opening on.
-use Rattle.std.specs.Prelude.{◌≡◌, ℕ, List, [], ◌∷◌, map}
-use Rattle.std.specs.List.{range_with_len}
+use Rattle.std.specs.Prelude.{◌≡◌, ℕ, ◌≢◌, true, false, Contains}
 use mathlib.Core.Option.{some}
 use lib.ListN.{get_elem?}
 use Rattle.pin_core.specs.declared.write.Write.{Write}
@@ -25,3 +24,8 @@ pub data Moves (s : CoreState) : CoreState → Type 0 where
 pub data Reaches (s : CoreState) : CoreState → Type 0 where
   stays : Reaches s s
   moves_on : (t u : CoreState) → Reaches s t → Moves t u → Reaches s u
+
+-- the seat has no stray at a slot where it has a handle
+abbrev pub KeepsStraysApart : View → Type 0
+KeepsStraysApart v =
+    (e other : Entry) → Contains v.entries e → Contains v.entries other → e.held ≡ true → other.held ≡ false → e.slot ≢ other.slot

@@ -1,6 +1,6 @@
 -- The steps of the protocol: when each is allowed, and what it leaves. A step of one of seven kinds is made by a reader
 -- that is out, and changes one word and what that reader's seat knows. A split and a join change two seats.
-use Rattle.std.specs.Prelude.{◌≡◌, ◌≢◌, ℕ, ◌+◌, ◌-◌, ◌*◌, ◌<◌, ◌≤◌, Bool, true, false, not, nat_lt, ◌==◌, if◌then◌else◌, is_some, Option, Some, None, List, [], ◌∷◌, ◌++◌, length, map, filter, replicate, slice_get, slice_set}
+use Rattle.std.specs.Prelude.{◌≡◌, ℕ, ◌+◌, ◌-◌, ◌*◌, ◌<◌, ◌≤◌, true, false, not, nat_lt, ◌==◌, if◌then◌else◌, is_some, Option, Some, None, List, [], ◌∷◌, ◌++◌, length, map, filter, replicate, slice_get, slice_set, Contains}
 use Rattle.std.specs.List.{remove, range_with_len}
 use mathlib.Core.Option.{some}
 use lib.ListN.{get_elem?}
@@ -19,6 +19,17 @@ use Rattle.pin_core.specs.Core.{CoreState, Front, front_number, front_slot, is_t
 pub record HasReader (s : CoreState) (id number : ℕ) (v : View) : Type 0 where
   pub here : get_elem? s.views id ≡ some v
   pub reader : IsReader number v
+
+-- the same, and the reader has this entry
+pub record HasEntry (s : CoreState) (id number : ℕ) (v : View) (e : Entry) : Type 0 where
+  pub seat : HasReader s id number v
+  pub among : Contains v.entries e
+
+-- the same, and holds it: a handle stands on it
+pub record HasHandle (s : CoreState) (id number : ℕ) (v : View) (e : Entry) : Type 0 where
+  pub seat : HasReader s id number v
+  pub among : Contains v.entries e
+  pub held : e.held ≡ true
 
 -- ---- 1: load the front word ----
 -- Always allowed.
@@ -93,6 +104,7 @@ abbrev pub exchange_turn : CoreState → ℕ → ℕ → View → CoreState
 exchange_turn s id number v = if is_some s.turn then miss_turn s id v else take_turn s id number v
 
 -- ---- 5: claim a slot, from the number that it keeps and no pin, to the number that comes next ----
+-- As long as nothing is claimed the word shows the number that the slot keeps, so the count alone decides.
 
 -- the reader has the turn and no claimed slot, and no listed version is in the slot
 pub record MayClaim (s : CoreState) (slot : ℕ) (v : View) : Type 0 where

@@ -15,6 +15,7 @@ mod journal;
 mod limits;
 mod listed;
 mod packing_laws;
+mod place_laws;
 mod reader_laws;
 mod replay_laws;
 mod run_laws;
@@ -29,9 +30,14 @@ pub use entry::{Entry, SlotWord};
 pub use limits::{FEWEST_SLOTS, MOST_SLOTS, MOST_WRITES, READER_NUMBERS};
 pub use listed::Listed;
 pub use packing_laws::{packed_words_are_read_back, places_stand_apart, words_show_small_numbers};
+pub use place_laws::{
+    a_claimed_slot_has_all_its_places, a_first_handle_finds_its_place_at_home,
+    a_place_is_away_for_a_handle_or_a_claim, other_places_stay,
+};
 pub use reader_laws::{
-    a_handle_keeps_its_slot, a_held_slot_is_not_claimed, a_stray_tells_of_more_writes,
-    allowances_have_room, each_write_stands_once, seen_journals_are_parts_of_one,
+    a_claim_meets_the_kept_number, a_handle_keeps_its_slot, a_held_slot_is_not_claimed,
+    a_stray_tells_of_more_writes, allowances_have_room, each_write_stands_once,
+    nothing_seen_is_forgotten, seen_journals_are_parts_of_one, the_floor_moves_under_no_reader,
     the_turn_has_one_holder,
 };
 pub use replay_laws::{
@@ -40,8 +46,8 @@ pub use replay_laws::{
     slots_keep_what_was_pushed_last,
 };
 pub use run_laws::{
-    lawful_states_stay_lawful, no_slot_is_claimed_under_a_handle, reached_states_are_lawful,
-    the_opening_is_lawful, the_opening_with_all_readers_is_lawful,
+    lawful_states_stay_lawful, no_slot_is_claimed_under_a_handle, no_stray_stands_beside_a_handle,
+    reached_states_are_lawful, the_opening_is_lawful, the_opening_with_all_readers_is_lawful,
 };
 pub use step_laws::{
     a_claim_keeps_states_lawful, a_join_keeps_states_lawful, a_load_keeps_states_lawful,
