@@ -1,4 +1,4 @@
-ghost use Rattle.std.specs.Prelude.{◌≡◌, ◌≤◌, ℕ, List, Option, IfOk, IsErrOf};
+ghost use Rattle.std.specs.Prelude.{◌≡◌, ◌≤◌, ℕ, List, Option, IfOk, OnOk, IsErrOf};
 ghost use Rattle.tz_io.specs.declared.files.FileError.TheVariants.{NoMemory};
 ghost use Rattle.tz_io.specs.Counts.{Rose};
 ghost use Rattle.tz_io.specs.Files.{IsFront};
@@ -45,16 +45,18 @@ pub trait Files {
     /// The content of each name, where the object tells it. A name is given by its bytes.
     ghost told: { Self → Option (List ℕ → Option (List ℕ)) };
 
-    /// How often a read of a name has failed. No call makes it smaller.
+    /// How often a read of a name has failed, up to the end of its type. No call makes it smaller, and one that gives
+    /// content leaves it as it was.
     ghost faults: { Self → List ℕ → ℕ };
 
     /// The first `limit + 1` bytes of the file of that name, or all of it where it is shorter: so
     /// more than `limit` bytes say that the file is longer than the limit. `FileError::Failed` comes
     /// only where the count of faults of that name rose; `FileError::NoMemory` may come at any call.
-    /// The files stay as they were, whatever the answer.
+    /// No count rises where content is given. The files stay as they were, whatever the answer.
     fn read(&mut self, alloc: Global, name: &str, limit: usize) -> Result<Vec<u8>, FileError>
         ensures kept { told self.new ≡ told self.old }
         ensures bytes { IfOk result (λ bytes. IsFront (told self.old) name.now limit bytes.items) }
         ensures later { (other : List ℕ) → faults self.old other ≤ faults self.new other }
+        ensures unharmed { OnOk result ((other : List ℕ) → faults self.new other ≡ faults self.old other) }
         ensures failed { IsErrOf result FileError.Failed → Rose (faults self.old name.now) (faults self.new name.now) };
 }

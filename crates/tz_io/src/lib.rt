@@ -8,6 +8,7 @@
 #![tactic(auto)]
 
 mod calls;
+mod counts;
 mod files;
 mod memory_files;
 mod memory_sink;
@@ -17,6 +18,7 @@ mod sink;
 #[cfg(test)]
 mod tests;
 
+pub use counts::rose_is_greater_or_at_the_end;
 pub use files::{FileError, Files};
 pub use memory_files::MemoryFiles;
 pub use memory_sink::MemorySink;

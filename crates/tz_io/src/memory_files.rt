@@ -1,4 +1,4 @@
-ghost use Rattle.std.specs.Prelude.{◌≡◌, ◌+◌, ◌-◌, ◌^◌, ◌≤◌, ◌<◌, ℕ, List, Option, Some, IfOk, IfSome, IsErrOf, min, take, vec_len, length};
+ghost use Rattle.std.specs.Prelude.{◌≡◌, ◌≢◌, ◌+◌, ◌-◌, ◌^◌, ◌≤◌, ◌<◌, ℕ, List, Option, Some, IfOk, OnOk, IfSome, IsErrOf, min, take, vec_len, length};
 ghost use Rattle.tz_io.specs.Entries.{contents_of, place_in, count_at};
 
 use crate::calls::is_failing;
@@ -56,6 +56,7 @@ fn count_fault(counts: &mut [u64], others: &mut u64, place: Option<usize>)
     requires { IfSome place (λ at. at < length counts.old) }
     ensures len { length counts.new ≡ length counts.old }
     ensures counted { count_at counts.new others.new place ≡ min (count_at counts.old others.old place + 1) (2 ^ 64 - 1) }
+    ensures alone { (other : Option ℕ) → other ≢ place → count_at counts.new others.new other ≡ count_at counts.old others.old other }
     ensures later { (other : Option ℕ) → count_at counts.old others.old other ≤ count_at counts.new others.new other }
 {
     match place {
@@ -87,10 +88,15 @@ impl Files for MemoryFiles {
         ensures kept { Some (files_contents self.new) ≡ Some (files_contents self.old) }
         ensures bytes { IfOk result (λ bytes. IsFront (Some (files_contents self.old)) name.now limit bytes.items) }
         ensures later { (other : List ℕ) → files_faults self.old other ≤ files_faults self.new other }
+        ensures unharmed { OnOk result ((other : List ℕ) → files_faults self.new other ≡ files_faults self.old other) }
         ensures failed { IsErrOf result FileError.Failed → Rose (files_faults self.old name.now) (files_faults self.new name.now) }
 
-        // Which reads fail.
+        // Which reads fail, and whose count then rises.
+        ensures counted { IsErrOf result FileError.Failed → files_faults self.new name.now ≡ min (files_faults self.old name.now + 1) (2 ^ 64 - 1) }
+        ensures hungry { IsErrOf result FileError.NoMemory → (other : List ℕ) → files_faults self.new other ≡ files_faults self.old other }
+        ensures alone { (other : List ℕ) → files_place self.old other ≢ files_place self.old name.now → files_faults self.new other ≡ files_faults self.old other }
         ensures fails { IsTrue (fails_next self.old) → IsErrOf result FileError.Failed }
+        ensures absent { IsNone (files_place self.old name.now) → IsErrOf result FileError.Failed }
         ensures fails_only { IsErrOf result FileError.Failed → IsTrue (fails_next self.old) ⊎ IsNone (files_place self.old name.now) }
         ensures calls { files_calls self.new ≡ next_call (files_calls self.old) }
         ensures failing { files_failing self.new ≡ files_failing self.old }

@@ -57,7 +57,7 @@ impl MemorySink {
 }
 
 impl Sink for MemorySink {
-    ghost use Rattle.std.specs.Prelude.{◌≡◌, ◌≤◌, ◌<◌, ◌↔◌, Some, Ok, IfOk, OnErr, IsErr, IsTrue, length};
+    ghost use Rattle.std.specs.Prelude.{◌≡◌, ◌≤◌, ◌<◌, ◌↔◌, ◌+◌, ◌-◌, ◌^◌, Some, Ok, IfOk, OnOk, OnErr, IsErr, IsTrue, length, min};
     ghost use Rattle.tz_io.specs.Calls.{next_call};
     ghost use Rattle.tz_io.specs.Counts.{Rose};
     ghost use Rattle.tz_io.specs.Sink.{Appends, part_taken};
@@ -74,12 +74,14 @@ impl Sink for MemorySink {
         ensures within { IfOk result (λ count. count ≤ length piece.now) }
         ensures taken { Appends (Some (sink_bytes self.old)) (Some (sink_bytes self.new)) (part_taken result piece.now) }
         ensures failed { OnErr result (Rose (sink_faults self.old) (sink_faults self.new)) }
+        ensures unharmed { OnOk result (sink_faults self.new ≡ sink_faults self.old) }
         ensures later { sink_faults self.old ≤ sink_faults self.new }
         ensures stalled { 0 < length piece.now → result ≡ Ok 0 → Rose (sink_stalls self.old) (sink_stalls self.new) }
         ensures stalls_only { sink_stalls self.old < sink_stalls self.new → (0 < length piece.now) × (result ≡ Ok 0) }
         ensures stalls_later { sink_stalls self.old ≤ sink_stalls self.new }
 
-        // Which writes fail, and how much the others take.
+        // Which writes fail and are counted, and how much the others take.
+        ensures counted { OnErr result (sink_faults self.new ≡ min (sink_faults self.old + 1) (2 ^ 64 - 1)) }
         ensures fails { IsErr result ↔ IsTrue (fails_next self.old) }
         ensures count { IfOk result (λ count. count ≡ taken_next self.old piece.now) }
         ensures calls { sink_calls self.new ≡ next_call (sink_calls self.old) }

@@ -60,20 +60,22 @@ pub trait Sink {
     /// All bytes taken so far, where the object tells them.
     ghost taken: { Self → Option (List ℕ) };
 
-    /// How often a write has failed. No call makes it smaller.
+    /// How often a write has failed, up to the end of its type. No call makes it smaller, and a write that doesn't
+    /// fail leaves it as it was.
     ghost faults: { Self → ℕ };
 
     /// How often a write took nothing of a piece that was not empty, and did not fail. No call
     /// makes it smaller.
     ghost stalls: { Self → ℕ };
 
-    /// Takes the first bytes of the piece, and answers how many. `Failed` takes nothing, and comes
-    /// only where the count of faults rose.
+    /// Takes the first bytes of the piece, and answers how many. `Failed` takes nothing. The count of faults rises
+    /// exactly where it comes.
     fn write(&mut self, piece: &[u8]) -> Result<usize, Failed>
         ensures within { IfOk result (λ count. count ≤ length piece.now) }
         ensures taken { Appends (taken self.old) (taken self.new) (part_taken result piece.now) }
 
         ensures failed { OnErr result (Rose (faults self.old) (faults self.new)) }
+        ensures unharmed { OnOk result (faults self.new ≡ faults self.old) }
         ensures later { faults self.old ≤ faults self.new }
 
         // A stall is counted where a write took nothing of a piece that was not empty, and nowhere else.
@@ -83,13 +85,14 @@ pub trait Sink {
 }
 
 /// Writes until the whole text is taken. After an error a part of it was taken that is shorter than
-/// the text. `PutError::Failed` comes only where the count of faults rose, and `PutError::Stalled`
-/// exactly where a write took nothing of what was left. It takes no memory.
+/// the text. `PutError::Failed` comes exactly where a write failed, and the count of faults rises nowhere else.
+/// `PutError::Stalled` comes exactly where a write took nothing of what was left. It takes no memory.
 pub fn put_all<S: Sink>(sink: &mut S, text: &[u8]) -> Result<(), PutError>
     ensures ok { OnOk result (Appends (S.taken sink.old) (S.taken sink.new) text.now) }
     ensures err { OnErr result (AppendsPart (S.taken sink.old) (S.taken sink.new) text.now) }
 
     ensures failed { IsErrOf result PutError.Failed → Rose (S.faults sink.old) (S.faults sink.new) }
+    ensures unharmed { result ≢ Err PutError.Failed → S.faults sink.new ≡ S.faults sink.old }
     ensures later { S.faults sink.old ≤ S.faults sink.new }
 
     ensures stalled { IsErrOf result PutError.Stalled → Rose (S.stalls sink.old) (S.stalls sink.new) }
