@@ -1,5 +1,5 @@
 -- What local times stand for.
-use Rattle.std.proofs.Common.{◌≡◌, ℕ, zero, suc, true, false, ◌⊎◌, inl, inr, ⊎_elim, refl, sym, ap, subst, ◌∙◌, arith, List, [], ◌∷◌, ℤ, pos, ◌+ℤ◌, ◌-ℤ◌, ◌<ℤ◌, ◌≤ℤ◌, Option, Some, None, IsSome}
+use Rattle.std.proofs.Common.{◌≡◌, ℕ, zero, suc, ◌<◌, true, false, ◌⊎◌, inl, inr, ⊎_elim, refl, sym, ap, subst, ◌∙◌, arith, List, [], ◌∷◌, ℤ, pos, ◌+ℤ◌, ◌-ℤ◌, ◌<ℤ◌, ◌≤ℤ◌, Option, Some, None, IsSome, Contains}
 use Rattle.std.specs.Prelude.{slice_get, int_le, int_lt}
 use Rattle.std.proofs.lemmas.Int.{ints, by_lt_z}
 use Rattle.std.proofs.lemmas.Bool.{cond-true, cond-false, and_parts, and_from, false_from_ne_true}
@@ -85,9 +85,18 @@ pub record IsLastBegun (ranges : List SysInfo) (l : ℤ) (begun : SysInfo) (othe
   pub next : slice_get ranges (suc place) ≡ slice_get others 0
   pub begins : begins_by l begun ≡ true
   pub later : (range : SysInfo) → In range others → begins_by l range ≡ false
+  pub after : (k : ℕ) (range : SysInfo) → place < k → slice_get ranges k ≡ Some range → begins_by l range ≡ false
 
 cons-parts : {X : Type 0} (x y : X) (xs ys : List X) → x ∷ xs ≡ y ∷ ys → (x ≡ y) × (xs ≡ ys)
 cons-parts x y xs ys e = (cc, cc)
+
+beyond_first : (first : SysInfo) (later : List SysInfo) (l : ℤ) → ((k : ℕ) (range : SysInfo) → slice_get later k ≡ Some range → begins_by l range ≡ false) → (k : ℕ) (range : SysInfo) → 0 < k → slice_get (first ∷ later) k ≡ Some range → begins_by l range ≡ false
+beyond_first first later l rest zero range below there = absurd (omega (arith, below))
+beyond_first first later l rest (suc k) range below there = rest k range there
+
+beyond : (first : SysInfo) (later : List SysInfo) (l : ℤ) (place : ℕ) → ((k : ℕ) (range : SysInfo) → place < k → slice_get later k ≡ Some range → begins_by l range ≡ false) → (k : ℕ) (range : SysInfo) → suc place < k → slice_get (first ∷ later) k ≡ Some range → begins_by l range ≡ false
+beyond first later l place rest zero range below there = absurd (omega (arith, below))
+beyond first later l place rest (suc k) range below there = rest k range (omega (arith, below)) there
 
 pub last_begun : (ranges : List SysInfo) (l : ℤ) (begun : SysInfo) (others : List SysInfo) → from_last_begun ranges l ≡ begun ∷ others → IsLastBegun ranges l begun others
 last_begun [] l begun others e = cons-nil [] begun others refl e
@@ -98,14 +107,28 @@ last_begun (first ∷ later) l begun others e =
     (λ begins.
     let parts = cons-parts first begun later others (sym (begun-here l first later none begins) ∙ e) in
     let at_first : IsLastBegun (first ∷ later) l first later =
-    record { place = 0; here = refl; next = refl; begins = begins; later = λ range has. none_begun later l range none has } in
+    record {
+      place = 0;
+      here = refl;
+      next = refl;
+      begins = begins;
+      later = λ range has. none_begun later l range none has;
+      after = beyond_first first later l (λ k range there. none_begun later l range none (In-from_get later k range there));
+    } in
     subst (λ (r : SysInfo). IsLastBegun (first ∷ later) l r others) parts.0
     (subst (λ (rs : List SysInfo). IsLastBegun (first ∷ later) l first rs) parts.1 at_first))
     (λ begins. cons-nil (from_last_begun (first ∷ later) l) begun others (begun-none l first later none begins) e))
     (λ other rest is.
     let rest_is : from_last_begun later l ≡ begun ∷ others = is ∙ (sym (begun-later l first other later rest is) ∙ e) in
     let found = last_begun later l begun others rest_is in
-    record { place = suc found.place; here = found.here; next = found.next; begins = found.begins; later = found.later })
+    record {
+      place = suc found.place;
+      here = found.here;
+      next = found.next;
+      begins = found.begins;
+      later = found.later;
+      after = beyond first later l found.place found.after;
+    })
 
 -- ---- the last range shows what is before its end
 pub last_end : (a b : ℤ) (ranges : List SysInfo) (place : ℕ) (range : SysInfo) → Covers a b ranges → slice_get ranges place ≡ Some range → slice_get ranges (suc place) ≡ None → range.end ≡ b
@@ -319,7 +342,7 @@ gap-made a b ranges l begun next others covers none both =
       first_at = last.here;
       second_at = second_at;
       after_first = has_ended l begun last.begins (not_shown ranges l begun none (In-from_get ranges last.place begun last.here));
-      before_second = begins-false l next (last.later next (inl refl));
+      before_later = λ later range after there. begins-false l range (last.after later range after there);
       meet = neighbours a b ranges last.place begun next covers last.here second_at;
       not_shown = λ other among. not_shown ranges l other none (In-from_Contains ranges other among);
     }
@@ -340,3 +363,104 @@ told_gap a b ranges l first second covers told =
     (λ other next later more.
     let same : Ambiguous other (last_from next later) ≡ Nonexistent first second = same_Some (Ambiguous other (last_from next later)) (Nonexistent first second) (sym (local_info-more ranges l other next later more) ∙ told) in
     ranks-apart (Ambiguous other (last_from next later)) (Nonexistent first second) same (λ e. omega arith))
+
+-- ---- and each answer comes where its relation holds
+takes_time : {P : Type 0} (a b : ℤ) (ranges : List SysInfo) (range : SysInfo) → Covers a b ranges → In range ranges → range.end ≤ℤ range.begin → P
+takes_time a b ranges range covers has late =
+    let inside = covers-from a b ranges range covers has in
+    absurd (omega (arith, ints, inside.1, late))
+
+shown_among : (ranges : List SysInfo) (l : ℤ) (range : SysInfo) → Contains ranges range → shows_local l range ≡ true → In range (candidates ranges l)
+shown_among ranges l range among shows = In-filter (shows_local l) ranges range (In-from_Contains ranges range among) shows
+
+only_one : (range other : SysInfo) → In range (other ∷ []) → other ≡ range
+only_one range other has = ⊎_elim (λ (same : other ≡ range). same) (λ (nothing : ⊥). absurd nothing) has
+
+pub shown_once_is_unique : (a b : ℤ) (ranges : List SysInfo) (l : ℤ) (range : SysInfo) → Covers a b ranges → IsShownOnce ranges l range → local_info ranges l ≡ Some (Unique range)
+shown_once_is_unique a b ranges l range covers once =
+    let has : In range (candidates ranges l) = shown_among ranges l range once.among once.shown in
+    by_length (candidates ranges l)
+    (λ none. let nowhere : In range [] = rw none at has in absurd nowhere)
+    (λ other one.
+    let there : In range (other ∷ []) = rw one at has in
+    local_info-one ranges l other one ∙ ap (λ (r : SysInfo). Some (Unique r)) (only_one range other there))
+    (λ other next later more.
+    let twice = ambiguous-made ranges l other next later (covers_before a b ranges covers) more in
+    let first : other ≡ range = once.alone other twice.first_among twice.first_shown in
+    let second : last_from next later ≡ range = once.alone (last_from next later) twice.second_among twice.second_shown in
+    let apart : other.end ≤ℤ (last_from next later).begin = twice.apart in
+    let one_end : range.end ≤ℤ (last_from next later).begin = subst (λ (r : SysInfo). r.end ≤ℤ (last_from next later).begin) first apart in
+    let one_begin : range.end ≤ℤ range.begin = subst (λ (r : SysInfo). range.end ≤ℤ r.begin) second one_end in
+    takes_time a b ranges range covers (In-from_Contains ranges range once.among) one_begin)
+
+same_or_apart : {P : Type 0} (a b : ℤ) (ranges : List SysInfo) (x y : SysInfo) → Covers a b ranges → Contains ranges x → Contains ranges y → x.end ≤ℤ y.begin → y.end ≤ℤ x.begin → P
+same_or_apart a b ranges x y covers has_x has_y one other =
+    let inside_x = covers-from a b ranges x covers (In-from_Contains ranges x has_x) in
+    let inside_y = covers-from a b ranges y covers (In-from_Contains ranges y has_y) in
+    absurd (omega (arith, ints, inside_x.1, inside_y.1, one, other))
+
+pub shown_twice_is_ambiguous : (a b : ℤ) (ranges : List SysInfo) (l : ℤ) (first second : SysInfo) → Covers a b ranges → IsShownTwice ranges l first second → local_info ranges l ≡ Some (Ambiguous first second)
+shown_twice_is_ambiguous a b ranges l first second covers twice =
+    let has_first : In first (candidates ranges l) = shown_among ranges l first twice.first_among twice.first_shown in
+    let has_second : In second (candidates ranges l) = shown_among ranges l second twice.second_among twice.second_shown in
+    by_length (candidates ranges l)
+    (λ none. let nowhere : In first [] = rw none at has_first in absurd nowhere)
+    (λ other one.
+    let there : In first (other ∷ []) = rw one at has_first in
+    let there' : In second (other ∷ []) = rw one at has_second in
+    let same : second ≡ first = sym (only_one second other there') ∙ only_one first other there in
+    let late : first.end ≤ℤ first.begin = subst (λ (r : SysInfo). first.end ≤ℤ r.begin) same twice.apart in
+    takes_time a b ranges first covers (In-from_Contains ranges first twice.first_among) late)
+    (λ other next later more.
+    let last = last_from next later in
+    let made = ambiguous-made ranges l other next later (covers_before a b ranges covers) more in
+    let firsts : other ≡ first =
+    ⊎_elim (λ (same : other ≡ first). same)
+    (λ (after : first.end ≤ℤ other.begin).
+    ⊎_elim (λ (same : first ≡ other). sym same)
+    (λ (before : other.end ≤ℤ first.begin). same_or_apart a b ranges other first covers made.first_among twice.first_among before after)
+    (made.from_first first twice.first_among twice.first_shown))
+    (twice.from_first other made.first_among made.first_shown) in
+    let seconds : last ≡ second =
+    ⊎_elim (λ (same : last ≡ second). same)
+    (λ (before : last.end ≤ℤ second.begin).
+    ⊎_elim (λ (same : second ≡ last). sym same)
+    (λ (after : second.end ≤ℤ last.begin). same_or_apart a b ranges last second covers made.second_among twice.second_among before after)
+    (made.to_second second twice.second_among twice.second_shown))
+    (twice.to_second last made.second_among made.second_shown) in
+    local_info-more ranges l other next later more ∙ ap (λ (r : SysInfo). Some (Ambiguous r last)) firsts ∙ ap (λ (r : SysInfo). Some (Ambiguous first r)) seconds)
+
+nothing_begun : (ranges : List SysInfo) (l : ℤ) → ((k : ℕ) (range : SysInfo) → slice_get ranges k ≡ Some range → begins_by l range ≡ false) → from_last_begun ranges l ≡ []
+nothing_begun [] l none = refl
+nothing_begun (first ∷ later) l none =
+    begun-none l first later (nothing_begun later l (λ k range there. none (suc k) range there)) (none 0 first refl)
+
+gap_found : (ranges : List SysInfo) (l : ℤ) (place : ℕ) (first second : SysInfo) → slice_get ranges place ≡ Some first → slice_get ranges (suc place) ≡ Some second → begins_by l first ≡ true → ((k : ℕ) (range : SysInfo) → place < k → slice_get ranges k ≡ Some range → begins_by l range ≡ false) → (others : List SysInfo) × (from_last_begun ranges l ≡ first ∷ second ∷ others)
+gap_found [] l place first second here next begins after = absurd (none-some first here)
+gap_found (range ∷ []) l zero first second here next begins after = absurd (none-some second next)
+gap_found (range ∷ other ∷ later) l zero first second here next begins after =
+    let firsts : range ≡ first = same_Some range first here in
+    let seconds : other ≡ second = same_Some other second next in
+    let none : from_last_begun (other ∷ later) l ≡ [] = nothing_begun (other ∷ later) l (λ k it there. after (suc k) it (omega arith) there) in
+    let begun : begins_by l range ≡ true = subst (λ (r : SysInfo). begins_by l r ≡ true) (sym firsts) begins in
+    (later, begun-here l range (other ∷ later) none begun ∙ ap (λ (r : SysInfo). r ∷ other ∷ later) firsts ∙ ap (λ (r : SysInfo). first ∷ r ∷ later) seconds)
+gap_found (range ∷ later) l (suc place) first second here next begins after =
+    let rest = gap_found later l place first second here next begins (λ k it below there. after (suc k) it (omega (arith, below)) there) in
+    (rest.0, begun-later l range first later (second ∷ rest.0) rest.1)
+
+pub gap_is_nonexistent : (a b : ℤ) (ranges : List SysInfo) (l : ℤ) (first second : SysInfo) → Covers a b ranges → IsInGap ranges l first second → local_info ranges l ≡ Some (Nonexistent first second)
+gap_is_nonexistent a b ranges l first second covers gap =
+    let inside = covers-from a b ranges first covers (In-from_get ranges gap.place first gap.first_at) in
+    let begun : (first.begin +ℤ first.offset) ≤ℤ l = omega (arith, ints, inside.1, gap.after_first) in
+    let found = gap_found ranges l gap.place first second gap.first_at gap.second_at (le-int_le (first.begin +ℤ first.offset) l begun) (λ k range below there. later-false l range (gap.before_later k range below there)) in
+    let between : gap_between (from_last_begun ranges l) ≡ Some (Nonexistent first second) = rw found.1 in
+    by_list (candidates ranges l)
+    (λ none. local_info-none ranges l none ∙ between)
+    (λ shown others more.
+    let has : In shown (candidates ranges l) = rw more (inl refl) in
+    let kept = In-filter_back (shows_local l) ranges shown has in
+    not_both (shows_local l shown) kept.1 (gap.not_shown shown (Contains-from_In ranges shown kept.0)))
+  where
+    later-false : (l : ℤ) (range : SysInfo) → l <ℤ (range.begin +ℤ range.offset) → begins_by l range ≡ false
+    later-false l range late =
+        false_from_ne_true (begins_by l range) (λ begins. let early = begins-true l range begins in omega (arith, ints, late, early))

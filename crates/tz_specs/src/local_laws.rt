@@ -1,4 +1,4 @@
-ghost use Rattle.std.specs.Prelude.{◌≡◌, ℤ, pos, ◌+ℤ◌, ◌-ℤ◌, ◌<ℤ◌, ◌≤ℤ◌, List, Some, IsSome};
+ghost use Rattle.std.specs.Prelude.{◌≡◌, ◌↔◌, ℤ, pos, ◌+ℤ◌, ◌-ℤ◌, ◌<ℤ◌, ◌≤ℤ◌, List, Some, IsSome};
 ghost use Rattle.std.specs.List.{All};
 ghost use Rattle.jiff_core.specs.Calendar.{IsWithin};
 ghost use Rattle.tz_types.specs.declared.range.SysInfo.{SysInfo};
@@ -12,10 +12,11 @@ pub fn local_times_are_told()
     ensures { (a b l : ℤ) (ranges : List SysInfo) → Covers a b ranges → All (λ range. IsWithin 172_800 range.offset) ranges → (a +ℤ pos 172_800) ≤ℤ l → l <ℤ (b -ℤ pos 172_800) → IsSome (local_info ranges l) }
 {}
 
-/// A unique local time is shown in its range alone, an ambiguous one first in the first range told and last in
-/// the second, and one that doesn't exist in none: it lies between the clocks of two neighbours.
+/// A local time is unique exactly where one range alone shows it, and ambiguous exactly where several do, of which the first
+/// and the last are told. It doesn't exist exactly where no range shows it: it lies between the clocks of two neighbours, the
+/// last such two.
 pub fn local_times_mean_what_they_say()
-    ensures unique { (l : ℤ) (ranges : List SysInfo) (range : SysInfo) → local_info ranges l ≡ Some (Unique range) → IsShownOnce ranges l range }
-    ensures ambiguous { (a b l : ℤ) (ranges : List SysInfo) (first second : SysInfo) → Covers a b ranges → local_info ranges l ≡ Some (Ambiguous first second) → IsShownTwice ranges l first second }
-    ensures nonexistent { (a b l : ℤ) (ranges : List SysInfo) (first second : SysInfo) → Covers a b ranges → local_info ranges l ≡ Some (Nonexistent first second) → IsInGap ranges l first second }
+    ensures unique { (a b l : ℤ) (ranges : List SysInfo) (range : SysInfo) → Covers a b ranges → IsShownOnce ranges l range ↔ (local_info ranges l ≡ Some (Unique range)) }
+    ensures ambiguous { (a b l : ℤ) (ranges : List SysInfo) (first second : SysInfo) → Covers a b ranges → IsShownTwice ranges l first second ↔ (local_info ranges l ≡ Some (Ambiguous first second)) }
+    ensures nonexistent { (a b l : ℤ) (ranges : List SysInfo) (first second : SysInfo) → Covers a b ranges → IsInGap ranges l first second ↔ (local_info ranges l ≡ Some (Nonexistent first second)) }
 {}
