@@ -24,6 +24,7 @@ pub mod Around
 pub mod Causes
 pub mod Written
 pub mod Value
+pub mod CivilWord
 pub mod Record
 pub mod Contents
 pub mod Whole

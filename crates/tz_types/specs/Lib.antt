@@ -1,6 +1,7 @@
 pub mod Text
 pub mod Year
 pub mod Calendar
+pub mod Civil
 pub mod Amount
 pub mod Format
 pub mod Saves

@@ -7,6 +7,7 @@
 
 mod calendar;
 mod cause;
+mod civil;
 mod counter;
 mod database;
 mod fault;
@@ -30,6 +31,7 @@ mod zone_line;
 
 pub use calendar::{Month, On, Weekday, civil_year, day_of, has_day, has_day_through};
 pub use cause::Cause;
+pub use civil::{BadDate, civil_seconds};
 pub use counter::Steps;
 pub use database::Db;
 pub use fault::Fault;
