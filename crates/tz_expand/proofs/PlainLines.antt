@@ -10,7 +10,8 @@ use Rattle.tz_types.specs.declared.range.SysInfo.{SysInfo}
 use Rattle.tz_expand.specs.declared.compiled_line.CompiledRules.{CompiledRules}
 use Rattle.tz_expand.specs.declared.compiled_line.CompiledRules.TheVariants as rules
 use Rattle.tz_expand.specs.declared.compiled_line.CompiledLine.{CompiledLine}
-use Rattle.tz_expand.specs.Compiled.{followed_by, has_no_rules, is_plain, period_of, periods}
+use Rattle.tz_expand.specs.Followed.{followed_by}
+use Rattle.tz_expand.specs.Compiled.{has_no_rules, is_plain, period_of, periods}
 
 pub followed_by_nothing : (it : CompiledRules) → IsTrue (has_no_rules it) → followed_by it ≡ Nothing
 followed_by_nothing rules.Plain h = refl

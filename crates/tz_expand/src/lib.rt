@@ -7,9 +7,15 @@
 mod building;
 mod compiled_line;
 mod compiled_zone;
+mod expansion;
+mod looks;
 mod lookup;
+mod occurrence;
+mod range;
+mod years;
 
 pub use building::compile;
 pub use compiled_line::{CompiledLine, CompiledRules};
 pub use compiled_zone::CompiledZone;
+pub use expansion::expand_between;
 pub use lookup::info_at;
