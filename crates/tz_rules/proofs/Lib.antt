@@ -1,1 +1,9 @@
 pub mod UntilLemmas
+pub mod LettersLemmas
+pub mod YearBounds
+pub mod BeforeMark
+pub mod AfterMark
+pub mod Instants
+pub mod EffectSearch
+pub mod ChangeSearch
+pub mod TakenLaws

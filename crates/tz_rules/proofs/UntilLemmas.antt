@@ -1,7 +1,9 @@
 -- The walk along occurrences to the one under which an UNTIL is read.
-use Rattle.std.proofs.Common.{◌≡◌, ℕ, zero, suc, ◌<◌, ◌≤◌, Bool, true, false, ◌⊎◌, inl, inr, ⊎_elim, refl, sym, ap, ◌∙◌, arith, List, [], ◌∷◌, ℤ, pos, neg_ℤ, ◌+ℤ◌, ◌-ℤ◌, ◌<ℤ◌, ◌≤ℤ◌, Some, IsTrue}
-use Rattle.std.specs.Prelude.{slice_get}
-use Rattle.std.specs.List.{count_by}
+use Rattle.std.proofs.Common.{◌≡◌, ℕ, zero, suc, ◌<◌, ◌≤◌, Bool, true, false, cond, ◌⊎◌, inl, inr, ⊎_elim, refl, sym, ap, ◌∙◌, arith, List, [], ◌∷◌, ℤ, pos, ◌+ℤ◌, ◌-ℤ◌, ◌<ℤ◌, ◌≤ℤ◌, Some}
+use Rattle.std.specs.Prelude.{slice_get, int_lt, nat_lt, count_by, ◌&&◌, ◌+◌, None}
+use Rattle.std.specs.Ordering.{int_eq}
+use Rattle.std.proofs.lemmas.Bool.{or_left}
+use Rattle.std.proofs.lemmas.List.Sums.{sum_by-cons}
 use Rattle.std.proofs.lemmas.Int.{ints}
 use Rattle.std.proofs.lemmas.Bool.{cases_order, false_from_ne_true}
 use Rattle.std.proofs.lemmas.Option.{none-some}
@@ -11,14 +13,17 @@ use Rattle.tz_types.specs.declared.moment.Moment.{Moment}
 use Rattle.tz_types.specs.declared.rule_set.RuleSet.{RuleSet}
 use Rattle.tz_specs.specs.Occurrence.{Occurrence, nominal_of, nominal_second, precedes, occurrences}
 use Rattle.tz_specs.specs.State.{shift}
-use Rattle.tz_specs.specs.Until.{Rules, until_instant}
 use Rattle.tz_specs.specs.Standing.{IsOccurrence}
-use Rattle.tz_specs.specs.Effect.{IsFirst, IsPrevious, ComesAt, until_with, NextNotBefore, NextBefore, FirstNotBefore, FirstBefore, IsUntilUnder}
-use Rattle.tz_specs.proofs.Tests.{not_both}
+use Rattle.tz_specs.specs.Effect.{IsFirst, IsPrevious, ComesAt, until_with, NextBefore, FirstNotBefore, IsUntilUnder}
+use Rattle.tz_specs.proofs.Tests.{by_test, not_both, lt-int_lt}
+use Rattle.tz_specs.proofs.ListLemmas.{In}
 use Rattle.tz_specs.proofs.OrderLemmas.{precedes-true, precedes_asym, precedes_trans}
-use Rattle.tz_specs.proofs.OccurrenceLemmas.{occurrences_strict, occurrences_places, occurrences_total}
+use Rattle.tz_specs.proofs.OccurrenceLemmas.{In-occurrences, occurrences_strict, occurrences_places, occurrences_total}
 use Rattle.tz_specs.proofs.EffectLemmas.{at_place, place_of, previous_at, first_at, comes_somewhen, comes_once, comes_near, shift_near}
-use Rattle.tz_rules.specs.Passed.{Passed}
+use Rattle.tz_rules.specs.Placed.{Placed}
+use Rattle.tz_rules.specs.Mark.{is_after}
+use Rattle.tz_rules.specs.Search.{FirstAfter, IsFirstAfter, LastBy, IsNextOf}
+use Rattle.tz_rules.specs.Passed.{Passed, NoneBy, PassesNext}
 
 -- what precedes has no later nominal second
 not_later : (first second : Occurrence) → precedes first second ≡ true → nominal_of first ≤ℤ nominal_of second
@@ -189,6 +194,95 @@ ends_before_first set stdoff until first instant is is_first comes reached other
 pub ends_without_any : (set : RuleSet) (stdoff until : ℤ) → ((other : Occurrence) → IsOccurrence set other → ⊥) → FirstNotBefore set stdoff until
 ends_without_any set stdoff until none other its_instant other_is other_first other_comes = absurd (none other other_is)
 
+-- ---- the first one, where all are later than a second
+pub all_after : (set : RuleSet) (second : ℤ) (line : ℕ) (other : Occurrence) → NoneBy set second → IsOccurrence set other → is_after (record { second = second; line = line }) other ≡ true
+all_after set second line other none is =
+    or_left (int_lt second (nominal_of other)) (int_eq second (nominal_of other) && nat_lt line other.rule.line) (lt-int_lt second (nominal_of other) (none other is))
+
+pub is_first_after : (set : RuleSet) (second : ℤ) (line : ℕ) (found : Placed) → NoneBy set second → FirstAfter set (record { second = second; line = line }) found → IsFirst set found.occurrence
+is_first_after set second line found none first other is =
+    ⊎_elim
+    (λ (same : other ≡ found.occurrence).
+    rw same (never_itself found.occurrence))
+    (λ (later : precedes found.occurrence other ≡ true). precedes_asym found.occurrence other later)
+    (first.first other is (all_after set second line other none is))
+  where
+    never_itself : (x : Occurrence) → precedes x x ≡ false
+    never_itself x =
+        false_from_ne_true (precedes x x) (λ itself. not_both (precedes x x) itself (precedes_asym x x itself))
+
+pub none_after_all : (set : RuleSet) (second : ℤ) (line : ℕ) → NoneBy set second → IsFirstAfter set (record { second = second; line = line }) None → (other : Occurrence) → IsOccurrence set other → ⊥
+none_after_all set second line none after other is =
+    not_both (is_after (record { second = second; line = line }) other) (all_after set second line other none is) (after other is)
+
+-- ---- what the code has at hand: two instants, and which is earlier
+pub first_passes : (set : RuleSet) (stdoff year : ℤ) (moment : Moment) (second : ℤ) (line : ℕ) (found : Placed) (instant until : ℤ) → NoneBy set second → FirstAfter set (record { second = second; line = line }) found → instant ≡ (nominal_of found.occurrence -ℤ shift found.occurrence.rule.moment.kind stdoff (pos 0)) → until ≡ until_with stdoff year moment (pos 0) → instant <ℤ until → Passed set stdoff year moment found.occurrence
+first_passes set stdoff year moment second line found instant until none first on_its_clock until_is before =
+    let is_first = is_first_after set second line found none first in
+    first_passed set stdoff year moment found.occurrence instant first.is is_first (comes_first set stdoff found.occurrence instant is_first on_its_clock) (rw (← until_is) before)
+
+pub first_stops : (set : RuleSet) (stdoff year : ℤ) (moment : Moment) (second : ℤ) (line : ℕ) (found : Placed) (instant until : ℤ) → NoneBy set second → FirstAfter set (record { second = second; line = line }) found → instant ≡ (nominal_of found.occurrence -ℤ shift found.occurrence.rule.moment.kind stdoff (pos 0)) → until ≡ until_with stdoff year moment (pos 0) → until ≤ℤ instant → FirstNotBefore set stdoff (until_with stdoff year moment (pos 0))
+first_stops set stdoff year moment second line found instant until none first on_its_clock until_is reached =
+    let is_first = is_first_after set second line found none first in
+    ends_before_first set stdoff (until_with stdoff year moment (pos 0)) found.occurrence instant first.is is_first (comes_first set stdoff found.occurrence instant is_first on_its_clock) (rw (← until_is) reached)
+
+pub none_stops : (set : RuleSet) (stdoff year : ℤ) (moment : Moment) (second : ℤ) (line : ℕ) → NoneBy set second → IsFirstAfter set (record { second = second; line = line }) None → FirstNotBefore set stdoff (until_with stdoff year moment (pos 0))
+none_stops set stdoff year moment second line none after =
+    ends_without_any set stdoff (until_with stdoff year moment (pos 0)) (none_after_all set second line none after)
+
+pub last_passes : (set : RuleSet) (stdoff year : ℤ) (moment : Moment) (second : ℤ) (found : Placed) → IsShift stdoff → (second +ℤ pos 345_601) ≡ nominal_second year moment → LastBy set second found → Passed set stdoff year moment found.occurrence
+last_passes set stdoff year moment second found stdoff_in is last =
+    let by = last.by in
+    starts_passed set stdoff year moment found.occurrence stdoff_in last.is (sooner (nominal_of found.occurrence) second (nominal_second year moment) by is)
+  where
+    sooner : (nominal second until : ℤ) → nominal ≤ℤ second → (second +ℤ pos 345_601) ≡ until → (nominal +ℤ pos 345_600) <ℤ until
+    sooner nominal second until by is = omega (arith, ints)
+
+pub next_passes : (set : RuleSet) (stdoff year : ℤ) (moment : Moment) (under : Occurrence) (next : Placed) (instant until : ℤ) → Passed set stdoff year moment under → IsNextOf set under (Some next) → instant ≡ (nominal_of next.occurrence -ℤ shift next.occurrence.rule.moment.kind stdoff under.rule.save) → until ≡ until_with stdoff year moment under.rule.save → instant <ℤ until → PassesNext set stdoff year moment under (Some next)
+next_passes set stdoff year moment under next instant until passed is on_its_clock until_is before =
+    (is.2.before, step_passed set stdoff year moment under next.occurrence instant passed is.1 is.2 (comes_after set stdoff under next.occurrence instant is.2 on_its_clock) (rw (← until_is) before))
+
+pub next_stops : (set : RuleSet) (stdoff year : ℤ) (moment : Moment) (under : Occurrence) (next : Placed) (instant until : ℤ) → Passed set stdoff year moment under → IsNextOf set under (Some next) → instant ≡ (nominal_of next.occurrence -ℤ shift next.occurrence.rule.moment.kind stdoff under.rule.save) → until ≡ until_with stdoff year moment under.rule.save → until ≤ℤ instant → IsUntilUnder set stdoff year moment under
+next_stops set stdoff year moment under next instant until passed is on_its_clock until_is reached =
+    ends_under set stdoff year moment under next.occurrence instant passed is.1 is.2 (comes_after set stdoff under next.occurrence instant is.2 on_its_clock) (rw (← until_is) reached)
+
 -- ---- the walk is not endless: fewer and fewer occurrences are later
-pub later_count : RuleSet → Occurrence → ℕ
+abbrev pub later_count : RuleSet → Occurrence → ℕ
 later_count set occurrence = count_by (precedes occurrence) (occurrences set)
+
+count_yes : {X : Type 0} (p : X → Bool) (x : X) (xs : List X) → p x ≡ true → count_by p (x ∷ xs) ≡ 1 + count_by p xs
+count_yes {X} p x xs yes_it = sum_by-cons (λ (y : X). cond (p y) 1 0) x xs ∙ rw yes_it refl
+
+count_no : {X : Type 0} (p : X → Bool) (x : X) (xs : List X) → p x ≡ false → count_by p (x ∷ xs) ≡ count_by p xs
+count_no {X} p x xs no_it =
+    sum_by-cons (λ (y : X). cond (p y) 1 0) x xs ∙ rw no_it (omega arith)
+
+count_fewer : {X : Type 0} (p q : X → Bool) (xs : List X) → ((x : X) → q x ≡ true → p x ≡ true) → count_by q xs ≤ count_by p xs
+count_fewer p q [] holds = omega arith
+count_fewer p q (x ∷ xs) holds =
+    by_test (q x)
+    (λ in_q. omega (arith, count_yes q x xs in_q, count_yes p x xs (holds x in_q), count_fewer p q xs holds))
+    (λ not_q.
+    by_test (p x) (λ in_p. omega (arith, count_no q x xs not_q, count_yes p x xs in_p, count_fewer p q xs holds))
+    (λ not_p. omega (arith, count_no q x xs not_q, count_no p x xs not_p, count_fewer p q xs holds)))
+
+count_less : {X : Type 0} (p q : X → Bool) (xs : List X) (y : X) → ((x : X) → q x ≡ true → p x ≡ true) → In y xs → p y ≡ true → q y ≡ false → count_by q xs < count_by p xs
+count_less p q [] y holds has in_p not_q = absurd has
+count_less p q (x ∷ xs) y holds has in_p not_q =
+    ⊎_elim
+    (λ (same : x ≡ y).
+    let x_in_p : p x ≡ true = rw same in_p in
+    let x_not_q : q x ≡ false = rw same not_q in
+    omega (arith, count_no q x xs x_not_q, count_yes p x xs x_in_p, count_fewer p q xs holds))
+    (λ (later : In y xs).
+    by_test (q x)
+    (λ in_q. omega (arith, count_yes q x xs in_q, count_yes p x xs (holds x in_q), count_less p q xs y holds later in_p not_q))
+    (λ not_q_too.
+    by_test (p x) (λ in_p_too. omega (arith, count_no q x xs not_q_too, count_yes p x xs in_p_too, count_less p q xs y holds later in_p not_q))
+    (λ not_p. omega (arith, count_no q x xs not_q_too, count_no p x xs not_p, count_less p q xs y holds later in_p not_q))))
+    has
+
+pub later_falls : (set : RuleSet) (under next : Occurrence) → IsOccurrence set next → precedes under next ≡ true → later_count set next < later_count set under
+later_falls set under next is before =
+    count_less (precedes under) (precedes next) (occurrences set) next (λ other after. precedes_trans under next other before after) (In-occurrences set next is) before
+    (false_from_ne_true (precedes next next) (λ itself. not_both (precedes next next) itself (precedes_asym next next itself)))

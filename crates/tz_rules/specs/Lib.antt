@@ -1,2 +1,10 @@
 pub mod OffsetText
 pub mod Passed
+pub mod Letters
+pub mod Following
+pub mod Placed
+pub mod Mark
+pub mod Search
+pub mod InEffect
+pub mod NextChange
+pub mod Taken

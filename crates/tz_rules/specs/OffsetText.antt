@@ -3,7 +3,7 @@ use Rattle.std.specs.Prelude.{ℕ, ◌/◌, ◌%◌, if◌then◌else◌, List, 
 use Rattle.tz_specs.specs.Abbreviation.{two_digits}
 
 -- the sign, and behind it hours, minutes and seconds
-abbrev pub longest_offset_text : ℤ → List ℕ
-longest_offset_text offset =
+abbrev pub offset_with_seconds : ℤ → List ℕ
+offset_with_seconds offset =
     (if int_lt offset (pos 0) then 0x2d else 0x2b)
     ∷ (two_digits (unsigned_abs offset / 3600) ++ two_digits (unsigned_abs offset / 60 % 60) ++ two_digits (unsigned_abs offset % 60))

@@ -5,7 +5,7 @@ ghost use Rattle.jiff_core.specs.Calendar.{IsWithin};
 ghost use Rattle.tz_types.specs.Text.{is_printable};
 ghost use Rattle.tz_types.specs.Format.{is_format};
 ghost use Rattle.tz_specs.specs.Abbreviation.{offset_text, abbreviation};
-ghost use Rattle.tz_rules.specs.OffsetText.{longest_offset_text};
+ghost use Rattle.tz_rules.specs.OffsetText.{offset_with_seconds};
 
 use crate::InForce;
 use arrayvec::ArrayVec;
@@ -43,7 +43,7 @@ fn digit(n: u64) -> u8
 /// An offset with its sign, its hours, its minutes and its seconds.
 fn offset_bytes(offset: i64) -> [u8; 7]
     requires { IsWithin 172_800 offset }
-    ensures { result ≡ longest_offset_text offset }
+    ensures { result ≡ offset_with_seconds offset }
 {
     let size = offset.unsigned_abs();
     let (hours, minutes, seconds) = (size / 3600, size / 60 % 60, size % 60);
@@ -62,7 +62,7 @@ fn offset_bytes(offset: i64) -> [u8; 7]
 fn offset_len(offset: i64) -> usize
     requires { IsWithin 172_800 offset }
     ensures bound { result ≤ 7 }
-    ensures text { take result (longest_offset_text offset) ≡ offset_text offset }
+    ensures text { take result (offset_with_seconds offset) ≡ offset_text offset }
 {
     let size = offset.unsigned_abs();
     if size % 3600 == 0 {

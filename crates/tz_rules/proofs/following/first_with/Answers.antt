@@ -1,0 +1,25 @@
+use Rattle.std.proofs.Common.{◌≡◌, rules, FitsSigned, None, Some}
+use Rattle.std.specs.Prelude.{slice_get}
+use Rattle.std.specs.Int.{w32}
+use Rattle.std.proofs.lemmas.Int.{to_z-of_z}
+use Rattle.tz_rules.specs.Search.{IsFirstOfRule, through_of, earlier_of}
+use Rattle.tz_rules.proofs.BeforeMark.{rule_at}
+use Rattle.tz_rules.proofs.AfterMark.{first_with_is}
+use Rattle.tz_rules.proofs.following.first_with.Goals as goal
+
+pub returns-in-None-clause-first : goal.returns-in-None-clause-first
+returns-in-None-clause-first g c =
+    let through_fits : FitsSigned w32 c.year_through-through.result = search rules in
+    let rule = c.index-as_slice-place.result in
+    let here = rule_at c.args.set.now c.as_slice.result.now c.args.place rule c.as_slice.ensures c.requires.place_in c.index-as_slice-place.is in
+    let through = c.year_through-through.ensures.value in
+    let own = simp to_z-of_z at c.in-None.ensures.first in
+    let own' = rw through at own in
+    first_with_is c.args.set.now c.args.mark c.args.place rule c.args.first None here c.requires.so_far own'
+
+pub returns-in-Some-clause-first : goal.returns-in-Some-clause-first
+returns-in-Some-clause-first g c =
+    let rule = c.index-as_slice-place.result in
+    let here = rule_at c.args.set.now c.as_slice.result.now c.args.place rule c.as_slice.ensures c.requires.place_in c.index-as_slice-place.is in
+    let is = c.earlier.ensures in
+    rw is (first_with_is c.args.set.now c.args.mark c.args.place rule c.args.first (Some c.in-Some.found) here c.requires.so_far c.in-Some.ensures.first)

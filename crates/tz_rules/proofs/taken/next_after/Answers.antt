@@ -1,0 +1,26 @@
+use Rattle.std.proofs.Common.{FitsSigned}
+use Rattle.std.specs.Int.{w64}
+use Rattle.std.proofs.lemmas.Int.{to_z-of_z}
+use Rattle.tz_rules.proofs.TakenLaws.{next_some, next_none, next_change_some}
+use Rattle.tz_rules.proofs.taken.next_after.Goals as goal
+
+pub returns-clause-some : goal.returns-clause-some
+returns-clause-some g c =
+    let stdoff_fits : FitsSigned w64 c.args.stdoff = c.ranges.stdoff in
+    let t_fits : FitsSigned w64 c.args.t = c.ranges.t in
+    let is = simp to_z-of_z at c.next_taken.ensures.next in
+    next_some c.args.set.now c.args.stdoff c.args.t c.next_taken.result is
+
+pub returns-clause-none : goal.returns-clause-none
+returns-clause-none g c =
+    let stdoff_fits : FitsSigned w64 c.args.stdoff = c.ranges.stdoff in
+    let t_fits : FitsSigned w64 c.args.t = c.ranges.t in
+    let is = simp to_z-of_z at c.next_taken.ensures.next in
+    next_none c.args.set.now c.args.stdoff c.args.t c.next_taken.result is
+
+pub returns-clause-change : goal.returns-clause-change
+returns-clause-change g c =
+    let stdoff_fits : FitsSigned w64 c.args.stdoff = c.ranges.stdoff in
+    let t_fits : FitsSigned w64 c.args.t = c.ranges.t in
+    let is = simp to_z-of_z at c.next_taken.ensures.next in
+    next_change_some c.args.set.now c.args.stdoff c.args.t c.next_taken.result is
