@@ -1,4 +1,3 @@
-pub mod PlainLines
 pub mod SoundZones
 pub mod Strict
 pub mod LookLemmas
@@ -7,3 +6,6 @@ pub mod Section
 pub mod Changes
 pub mod Told
 pub mod Between
+pub mod Lines
+pub mod SameZones
+pub mod StretchLemmas
