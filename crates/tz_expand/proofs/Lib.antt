@@ -1,2 +1,11 @@
-pub mod PlainLines
 pub mod SoundZones
+pub mod Strict
+pub mod LookLemmas
+pub mod Gathered
+pub mod Section
+pub mod Changes
+pub mod Told
+pub mod Between
+pub mod Lines
+pub mod SameZones
+pub mod StretchLemmas

@@ -1,18 +1,9 @@
 -- What compiled lines stand for: periods of their zone.
-use Rattle.std.specs.Prelude.{Bool, true, false, ◌&&◌, List, map}
-use Rattle.tz_types.specs.declared.format.Format.{Format}
-use Rattle.tz_specs.specs.Until.{Following, Nothing, Fixed, Rules}
+use Rattle.std.specs.Prelude.{Bool, List, map}
 use Rattle.tz_specs.specs.Expansion.{Period, first_instant, end_of_time}
 use Rattle.tz_specs.specs.Sound.{leads}
-use Rattle.tz_specs.specs.Unbuilt.{is_text}
-use Rattle.tz_expand.specs.declared.compiled_line.CompiledRules.{CompiledRules}
-use Rattle.tz_expand.specs.declared.compiled_line.CompiledRules.TheVariants as rules
 use Rattle.tz_expand.specs.declared.compiled_line.CompiledLine.{CompiledLine}
-
-abbrev pub followed_by : CompiledRules → Following
-followed_by rules.Plain = Nothing
-followed_by (rules.Fixed save daylight) = Fixed save daylight
-followed_by (rules.Set set) = Rules set
+use Rattle.tz_expand.specs.Followed.{followed_by}
 
 -- the period that a line stands for
 abbrev pub period_of : CompiledLine → Period
@@ -31,12 +22,3 @@ periods lines = map period_of lines
 -- the lines lead from the beginning of time to its end
 abbrev pub cover_time : List CompiledLine → Bool
 cover_time lines = leads first_instant end_of_time (periods lines)
-
--- a line without rules, whose format stands for itself
-abbrev pub has_no_rules : CompiledRules → Bool
-has_no_rules rules.Plain = true
-has_no_rules (rules.Fixed save daylight) = false
-has_no_rules (rules.Set set) = false
-
-abbrev pub is_plain : CompiledLine → Bool
-is_plain line = has_no_rules line.rules && is_text line.format

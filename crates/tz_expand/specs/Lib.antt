@@ -1,3 +1,5 @@
-pub mod Before
+pub mod Followed
 pub mod Compiled
 pub mod Zone
+pub mod Stretch
+pub mod Looks

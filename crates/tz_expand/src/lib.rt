@@ -1,15 +1,27 @@
 //! Zones ready for questions, and their ranges.
 //!
-//! `compile` makes a zone ready, and `info_at` answers the one range of its full expansion that holds an
-//! instant. So far the lines of a zone have no rules, and formats that stand for themselves.
+//! `compile` makes a zone of a sound database ready. `info_at` answers the one range of its full expansion that holds an
+//! instant, `expand_between` all that meet a stretch, and `dump_zones` the same of many zones at once. No full
+//! expansion is ever made: each answer comes from a few occurrences near the instant or the stretch. The crate stands
+//! on `tz_rules` for occurrences and their changes, and on `rayon` for dumps.
 #![tactic(auto)]
 
-mod building;
+mod compilation;
 mod compiled_line;
 mod compiled_zone;
-mod lookup;
+mod dump;
+mod expansion;
+mod info;
+mod laws;
+mod looks;
+mod occurrence;
+mod range;
+mod years;
 
-pub use building::compile;
+pub use compilation::compile;
 pub use compiled_line::{CompiledLine, CompiledRules};
 pub use compiled_zone::CompiledZone;
-pub use lookup::info_at;
+pub use dump::dump_zones;
+pub use expansion::expand_between;
+pub use info::info_at;
+pub use laws::{ranges_between_have_an_instant_of_the_stretch, zones_are_compiled_to_one_value};

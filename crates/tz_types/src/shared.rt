@@ -33,6 +33,16 @@ impl<T> Shared<T> {
     }
 }
 
+impl<T: Drop> Shared<T> {
+    /// The same value, shared once more and not copied.
+    pub fn share(&self) -> Result<Self, NoMemory>
+        ensures { IfOk result (λ again. again ≡ self.now) }
+    {
+        let arc = self.arc.clone()?;
+        Ok(Shared { arc })
+    }
+}
+
 impl<T: PartialEq> PartialEq for Shared<T> {
     ghost eq = { T.eq };
 

@@ -1,0 +1,16 @@
+-- What a compiled line follows, and how large a save it may fix.
+use Rattle.std.specs.Prelude.{Bool, true, nat_le, unsigned_abs}
+use Rattle.tz_specs.specs.Until.{Following, Nothing, Fixed, Rules}
+use Rattle.tz_expand.specs.declared.compiled_line.CompiledRules.{CompiledRules}
+use Rattle.tz_expand.specs.declared.compiled_line.CompiledRules.TheVariants as rules
+
+abbrev pub followed_by : CompiledRules → Following
+followed_by rules.Plain = Nothing
+followed_by (rules.Fixed save daylight) = Fixed save daylight
+followed_by (rules.Set set) = Rules set
+
+-- a fixed save is at most a day, with either sign
+abbrev pub is_fixed_save : CompiledRules → Bool
+is_fixed_save rules.Plain = true
+is_fixed_save (rules.Fixed save daylight) = nat_le (unsigned_abs save) 86_400
+is_fixed_save (rules.Set set) = true
