@@ -1,7 +1,5 @@
 ghost use Rattle.std.specs.Prelude.{◌≡◌, ◌<◌, ◌≤◌, ◌↔◌, length, IsTrue, IsSome};
-ghost use Rattle.std.specs.List.{list_all};
 ghost use Rattle.tz_specs.specs.Expansion.{IsInstant, range_at};
-ghost use Rattle.tz_expand.specs.Compiled.{is_plain};
 ghost use Rattle.tz_expand.specs.Zone.{expansion_of};
 ghost use Rattle.tz_cli.specs.Info.{InfoAnswers};
 ghost use Rattle.tz_cli.specs.Refusal.{Gives};
@@ -21,7 +19,6 @@ fn info_uncounted<L: Ledger>(zone: &CompiledZone, instant: i64, blank: Blank) ->
     requires name { blank.name ≡ L.name }
     requires parts { blank.parts ≡ L.parts }
     requires counts { 0 < blank.parts }
-    requires plain { IsTrue (list_all is_plain zone.now.lines) }
     ensures range { result ≡ range_at (expansion_of zone.now) instant }
     ensures in_range { IsSome result ↔ IsInstant instant }
 {
