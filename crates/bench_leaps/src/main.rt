@@ -1,9 +1,9 @@
 //! Converts instants between clocks, as often as asked: what `bench/leaps.sh` takes the time of.
 //!
 //! The first word names a leap text, the second what is done with each instant, and the third how often: `utc` is the
-//! UTC count of a system time, `sys` the system time of a UTC count, and `search` a plain binary search among the
-//! leap dates. Each takes the same instants, from 1970 to 2038 in no order. The line that is printed is a sum, so that
-//! no work can be left out.
+//! UTC count of a system time, `sys` the system time of a UTC count, `info` what there is to know of a UTC count, and
+//! `search` a plain binary search among the dates of the table. Each takes the same instants, from 1970 to 2038 in no
+//! order. The line that is printed is a sum, so that no work can be left out.
 #![tactic(auto)]
 
 ghost use Rattle.std.specs.Prelude.{◌<◌, ◌≤◌, length, pos, ◌≤ℤ◌, ◌<ℤ◌};
@@ -11,7 +11,7 @@ ghost use Rattle.std.specs.Prelude.{◌<◌, ◌≤◌, length, pos, ◌≤ℤ�
 use std::alloc::Global;
 use std::rt::{Env, Files};
 use std::{env, fs, io};
-use tz_leap::{sys_of_utc, utc_of_sys};
+use tz_leap::{leap_info, sys_of_utc, utc_of_sys};
 use tz_lines::read_leaps;
 use tz_types::{LeapEntry, Leaps};
 
@@ -23,6 +23,7 @@ const MOST_BYTES: usize = 4_194_304;
 enum Work {
     Utc,
     Sys,
+    Info,
     Search,
 }
 
@@ -51,11 +52,20 @@ fn dates_by(entries: &[LeapEntry], t: i64) -> i64 {
     }
 }
 
+/// How many seconds elapsed, and one more at an added second.
+fn elapsed_at(leaps: &Leaps, u: i64) -> i64 {
+    match leap_info(leaps, u) {
+        Ok(info) => info.elapsed.wrapping_add(i64::from(info.is_leap)),
+        Err(_) => 0,
+    }
+}
+
 /// What the work gives for an instant.
 fn done(work: Work, leaps: &Leaps, t: i64) -> i64 {
     match work {
         Work::Utc => utc_of_sys(leaps, t).unwrap_or(0),
         Work::Sys => sys_of_utc(leaps, t).unwrap_or(0),
+        Work::Info => elapsed_at(leaps, t),
         Work::Search => dates_by(leaps.entries.as_slice(), t),
     }
 }
@@ -83,6 +93,7 @@ fn words(rt: &(impl Env + AllocGlobal)) -> io::Result<(String, Work, u32)> {
     let work = match work.as_str() {
         "utc" => Work::Utc,
         "sys" => Work::Sys,
+        "info" => Work::Info,
         "search" => Work::Search,
         _ => return Err(refused()),
     };
