@@ -118,12 +118,13 @@ fn expiry(text: &str) -> Option<i64> {
 fn with_expiry(alloc: Global, text: &str) -> Result<Vec<u8>, AllocError> {
     let mut whole = Vec::new(alloc);
     for line in text.lines() {
-        let line = if line.starts_with("#Expires") {
-            &line[1..]
-        } else {
-            line
-        };
-        whole.extend_from_slice(line.as_bytes())?;
+        match line.strip_prefix("#Expires") {
+            Some(rest) => {
+                whole.extend_from_slice(b"Expires")?;
+                whole.extend_from_slice(rest.as_bytes())?;
+            }
+            None => whole.extend_from_slice(line.as_bytes())?,
+        }
         whole.push(b'\n')?;
     }
     Ok(whole)
