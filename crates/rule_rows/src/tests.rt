@@ -129,6 +129,21 @@ fn sets_made_to_hurt_agree(rt: HostRuntime) -> Result<(), Fail> {
     Ok(())
 }
 
+/// A set of as many rules as there may be, of which four stand on one nominal second in most years.
+#[test]
+fn a_full_set_agrees(rt: HostRuntime) -> Result<(), Fail> {
+    let alloc = rt.alloc();
+    let mut text = String::new(alloc);
+    for year in 1700..2212 {
+        let last = year + 3;
+        let save = year % 25;
+        let line = format!(in alloc; "Rule S {year} {last} - Apr 1 2:00 {save}:00 A\n")?;
+        text.push_str(line.as_str())?;
+    }
+    assert!(rt; all_agree(alloc, text.as_str())? > 200);
+    Ok(())
+}
+
 #[test]
 fn sets_at_the_ends_of_time_agree(rt: HostRuntime) -> Result<(), Fail> {
     assert!(rt; all_agree(rt.alloc(), FIRST_AND_LAST_YEARS)? > 200);
