@@ -7,3 +7,9 @@ pub mod Instants
 pub mod EffectSearch
 pub mod ChangeSearch
 pub mod TakenLaws
+pub mod Ascending
+pub mod ToldLists
+pub mod Leasts
+pub mod NameOrder
+pub mod NamesFound
+pub mod FirstLines

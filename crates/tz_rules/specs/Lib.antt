@@ -8,3 +8,12 @@ pub mod Search
 pub mod InEffect
 pub mod NextChange
 pub mod Taken
+pub mod Told
+pub mod NamePlace
+pub mod FirstLine
+pub mod Continued
+pub mod Parts
+pub mod LineOrder
+pub mod Built
+pub mod Reach
+pub mod Messages

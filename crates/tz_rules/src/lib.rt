@@ -6,6 +6,8 @@
 #![tactic(auto)]
 
 mod coming;
+mod database;
+mod error;
 mod following;
 mod format;
 mod in_effect;
@@ -13,18 +15,24 @@ mod in_force;
 mod letters;
 mod mark;
 mod next_change;
+mod parts;
 mod preceding;
 mod rule_year;
 mod shift;
 mod taken;
+mod telling;
 mod until;
 #[cfg(test)]
 mod worked_rows;
 mod years;
 
+pub use database::build;
+pub use error::BuildError;
 pub use format::abbreviation;
 pub use in_force::InForce;
 pub use letters::letters_before;
+pub use parts::Parts;
 pub use rule_year::occurrence;
 pub use taken::{Taken, last_at_or_before, next_after};
+pub use telling::Told;
 pub use until::until_instant;

@@ -4,7 +4,7 @@ use Rattle.std.specs.List.{filter_map}
 use Rattle.std.proofs.lemmas.List.{drop_more}
 use Rattle.std.proofs.lemmas.List.Elements.{filter_map-append}
 use Rattle.tz_types.specs.declared.fault.Fault.{Fault}
-use Rattle.tz_lines.specs.Told.{lesser, told_with}
+use Rattle.tz_rules.specs.Told.{lesser, told_with}
 
 pub told-append : (least : Option Fault) (first second : List Fault) → told_with least (first ++ second) ≡ told_with (told_with least first) second
 told-append least [] second = refl

@@ -12,8 +12,8 @@ use Rattle.std.proofs.lemmas.Bool.Decides.{nat_tests}
 use Rattle.std.proofs.lemmas.List.Sorted.{searchable_from_sorted}
 use Rattle.tz_types.specs.Order.{ascends, ascends_after, name_before}
 use Rattle.tz_specs.specs.Value.{is_exactly}
-use Rattle.tz_lines.specs.NamePlace.{name_place, one_later}
-use Rattle.tz_lines.proofs.Ascending.{rest_ascends}
+use Rattle.tz_rules.specs.NamePlace.{name_place, one_later}
+use Rattle.tz_rules.proofs.Ascending.{rest_ascends}
 
 -- how two names compare
 abbrev pub compared : List ℕ → List ℕ → Ordering

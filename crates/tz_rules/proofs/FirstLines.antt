@@ -10,7 +10,7 @@ use Rattle.tz_types.specs.declared.cause.Cause.TheVariants as causes
 use Rattle.tz_types.specs.declared.fault.Fault.{Fault}
 use Rattle.tz_specs.specs.Value.{is_exactly}
 use Rattle.tz_specs.specs.Whole.{fault_where, repeated_name}
-use Rattle.tz_lines.specs.FirstLine.{first_line, lesser_line, is_after, later_name}
+use Rattle.tz_rules.specs.FirstLine.{first_line, lesser_line, is_after, later_name}
 
 pub same_name : (name other : List ℕ) → is_eq (slice_cmp nat_cmp name other) ≡ is_exactly name other
 same_name name other = is_eq-slice_cmp name other

@@ -6,8 +6,8 @@ use Rattle.std.proofs.lemmas.Bool.Decides.{nat_tests}
 use Rattle.std.proofs.lemmas.Slice.Eq.{bytes_eq-Decides}
 use Rattle.tz_types.specs.Order.{ascends, ascends_after, name_before}
 use Rattle.tz_specs.specs.Value.{is_exactly}
-use Rattle.tz_lines.specs.NamePlace.{name_place, one_later}
-use Rattle.tz_lines.proofs.NameOrder.{Ascend, AscendAfter, after-tail, after-rest, after-at, before_trans, before_other, differs_before}
+use Rattle.tz_rules.specs.NamePlace.{name_place, one_later}
+use Rattle.tz_rules.proofs.NameOrder.{Ascend, AscendAfter, after-tail, after-rest, after-at, before_trans, before_other, differs_before}
 
 pub place_same : (name other : List ℕ) (names : List (List ℕ)) → is_exactly other name ≡ true → name_place name (other ∷ names) ≡ Ok 0
 unfolding name_place

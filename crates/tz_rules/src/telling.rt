@@ -3,7 +3,7 @@ ghost use Rattle.std.specs.Prelude.{◌≡◌, None};
 ghost use Rattle.std.specs.Option.{option_to_list};
 ghost use Rattle.tz_specs.specs.Causes.{fault_at};
 ghost use Rattle.tz_specs.specs.Whole.{fault_where, is_told_before};
-ghost use Rattle.tz_lines.specs.Told.{lesser, told_with};
+ghost use Rattle.tz_rules.specs.Told.{lesser, told_with};
 
 use tz_types::{Cause, Fault};
 
