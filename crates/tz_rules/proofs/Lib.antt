@@ -13,3 +13,5 @@ pub mod Leasts
 pub mod NameOrder
 pub mod NamesFound
 pub mod FirstLines
+pub mod Places
+pub mod SortedNames

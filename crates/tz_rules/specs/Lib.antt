@@ -16,4 +16,7 @@ pub mod Parts
 pub mod LineOrder
 pub mod Built
 pub mod Reach
+pub mod SetPlace
+pub mod ZonePlace
+pub mod Settled
 pub mod Messages
