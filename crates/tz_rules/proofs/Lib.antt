@@ -13,5 +13,10 @@ pub mod Leasts
 pub mod NameOrder
 pub mod NamesFound
 pub mod FirstLines
-pub mod Places
+pub mod PlacesOfNames
 pub mod SortedNames
+pub mod SettledLines
+pub mod LinkZones
+pub mod Faultless
+pub mod NamesApart
+pub mod ZoneTime

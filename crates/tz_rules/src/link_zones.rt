@@ -44,6 +44,14 @@ fn place_reached(reached: Option<u32>, names: &[Label], zones: &[Zone]) -> Optio
     zone_place(zones, name.as_bytes())
 }
 
+/// Gives a link its zone.
+fn place_link(link: &mut Link, zone: u32)
+    ensures written { written_link link.new ≡ written_link link.old }
+    ensures zone { link.new.zone ≡ zone }
+{
+    link.zone = zone;
+}
+
 /// Gives each link the place, among the zones, of the zone that it reaches. `reached` has the place of that zone's name
 /// among the names, link by link.
 pub fn place_links(
@@ -62,7 +70,7 @@ pub fn place_links(
     let mut links = links.into_vec();
     for (place, link) in links.iter_mut().enumerate() {
         match place_reached(reached[place], names, zones) {
-            Some(zone) => link.zone = zone,
+            Some(zone) => place_link(link, zone),
             None => unreachable!(),
         }
     }

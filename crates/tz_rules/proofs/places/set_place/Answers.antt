@@ -2,7 +2,7 @@ use Rattle.std.proofs.Common.{rules, of_calls}
 use Rattle.std.proofs.lemmas.Fn.{always_returns_same}
 use Rattle.tz_types.specs.declared.rule_set.RuleSet.{RuleSet}
 use Rattle.tz_rules.proofs.NameOrder.{compared}
-use Rattle.tz_rules.proofs.Places.{place_found, place_missing}
+use Rattle.tz_rules.proofs.PlacesOfNames.{place_found, place_missing}
 use Rattle.tz_rules.proofs.places.set_place.Goals as goal
 
 pub returns-in-Ok : goal.returns-in-Ok
