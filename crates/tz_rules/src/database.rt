@@ -5,9 +5,13 @@ ghost use Rattle.tz_rules.specs.LineOrder.{begin_in_order, link_in_order};
 ghost use Rattle.tz_rules.specs.Built.{IsBuiltOf, MeansWholeFault};
 
 use crate::BuildError;
+use crate::least_fault::least_fault;
 use crate::parts::Parts;
+use crate::places::set_places;
+use crate::reach::zones_reached;
+use crate::settle::settle;
 use std::alloc::Global;
-use tz_types::Db;
+use tz_types::{Db, Fault};
 
 /// The database of what the lines of a text gave, whose zones begin on later and later lines, as the links stand.
 ///
@@ -21,5 +25,10 @@ pub fn build(alloc: Global, parts: Parts) -> Result<Db, BuildError>
     ensures ok { IfOk result (λ db. IsBuiltOf (contents_given parts) parts.version db) }
     ensures err { IfErr result (λ e. MeansWholeFault e parts.sets (contents_given parts)) }
 {
-    Err(BuildError::NoMemory)
+    let places = set_places(alloc, parts.sets.as_slice(), parts.names.as_slice())?;
+    let reached = zones_reached(alloc, parts.zones.as_slice(), parts.links.as_slice())?;
+    match least_fault(alloc, &parts, &places, &reached)? {
+        Some(Fault { line, cause }) => Err(BuildError::Fault { line, cause }),
+        None => Ok(settle(alloc, parts, &places, &reached)?),
+    }
 }
