@@ -20,3 +20,4 @@ pub mod LinkZones
 pub mod Faultless
 pub mod NamesApart
 pub mod ZoneTime
+pub mod BuiltDatabases

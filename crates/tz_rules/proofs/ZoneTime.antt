@@ -53,7 +53,7 @@ own_place {X} key xs k x ascend at =
 abbrev name_of : RuleSet → List ℕ
 name_of set = set.name
 
-there_is : {X : Type 0} (xs : List X) (k : ℕ) → k < length xs → slice_get xs k ≡ None → ⊥
+pub there_is : {X : Type 0} (xs : List X) (k : ℕ) → k < length xs → slice_get xs k ≡ None → ⊥
 there_is {X} [] k low none = omega arith
 there_is {X} (x ∷ xs) k low none = (let at = slice_get-get_or (x ∷ xs) k x low in cc)
 
