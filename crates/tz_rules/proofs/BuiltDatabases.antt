@@ -6,11 +6,11 @@ use Rattle.std.proofs.lemmas.Bool.Decides.{nat_tests}
 use Rattle.std.specs.Option.{is_none}
 use Rattle.std.specs.List.{list_all, filter_map, flat_map, slice_get, AllPairs}
 use Rattle.std.specs.List.Sorted.{IsPermutation}
-use Rattle.std.proofs.lemmas.List.{get_or-map, length-map}
+use Rattle.std.proofs.lemmas.List.{length-map}
 use Rattle.std.proofs.lemmas.List.Elements.{All-nil, All-cons, All-head, All-tail}
 use Rattle.std.proofs.lemmas.List.Sums.{AllPass-from_list_all, list_all-from_AllPass}
 use Rattle.std.proofs.lemmas.List.Sorted.{IsPermutation-sym, IsPermutation-map, All-permutation, length_permutation}
-use Rattle.std.proofs.lemmas.Option.{slice_get-map, slice_get-get_or, slice_get_within, get_or_from_slice_get}
+use Rattle.std.proofs.lemmas.Option.{slice_get-map, slice_get_within, get_or_from_slice_get}
 use Rattle.std.proofs.lemmas.Simd.{map-map}
 use Rattle.tz_types.specs.Order.{ascends, name_before}
 use Rattle.tz_types.specs.Limit.{most_zones, most_links}
@@ -21,10 +21,10 @@ use Rattle.tz_types.specs.declared.zone.Zone.{Zone}
 use Rattle.tz_types.specs.declared.link.Link.{Link}
 use Rattle.tz_types.specs.declared.database.Db.{Db}
 use Rattle.tz_specs.specs.Choice.{◌>>=◌}
-use Rattle.tz_specs.specs.Written.{WrittenZone, WrittenLink, set_names, written_set, written_rules, written_line, written_zone, written_link}
+use Rattle.tz_specs.specs.Written.{WrittenZone, WrittenLink, set_names, written_set, written_line, written_zone, written_link}
 use Rattle.tz_specs.specs.Contents.{Contents}
 use Rattle.tz_specs.specs.Whole.{following_in, unknown_rule, zone_of_link, missing_target, whole_faults}
-use Rattle.tz_specs.specs.Sound.{is_known, is_sound, is_sound_zone}
+use Rattle.tz_specs.specs.Sound.{is_known, is_sound_zone}
 use Rattle.tz_rules.specs.declared.parts.Parts.{Parts}
 use Rattle.tz_rules.specs.Parts.{contents_given}
 use Rattle.tz_rules.specs.LineOrder.{begin_in_order, link_in_order}
@@ -34,7 +34,7 @@ use Rattle.tz_rules.specs.SetPlace.{set_place_of}
 use Rattle.tz_rules.specs.ZonePlace.{zone_place_of, place_reached}
 use Rattle.tz_rules.specs.Settled.{has_set, have_sets, AreSettledZones}
 use Rattle.tz_rules.specs.Built.{IsBuiltOf}
-use Rattle.tz_rules.proofs.Faultless.{Faultless, faultless, none_first, none_second, none_of_first, none_of_rest, no_fault}
+use Rattle.tz_rules.proofs.Faultless.{faultless, none_first, none_second, none_of_first, none_of_rest, no_fault}
 use Rattle.tz_rules.proofs.NamesFound.{found-position}
 use Rattle.tz_rules.proofs.PlacesOfNames.{place_within}
 use Rattle.tz_rules.proofs.SettledLines.{named_set}

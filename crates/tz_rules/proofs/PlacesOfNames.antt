@@ -1,5 +1,5 @@
 -- Places in lists of names that ascend, and what stands there.
-use Rattle.std.proofs.Common.{◌≡◌, ℕ, ◌<◌, Bool, true, nat_lt, IsTrue, List, [], ◌∷◌, length, map, get_or, Option, Some, None, is_some, Result, Ok, Err, refl, sym, ◌∙◌, arith}
+use Rattle.std.proofs.Common.{◌≡◌, ℕ, ◌<◌, Bool, true, nat_lt, IsTrue, List, [], ◌∷◌, length, map, get_or, Some, None, Result, Ok, Err, refl, sym, ◌∙◌, arith}
 use Rattle.std.specs.List.{position, position_or_len, find, slice_get}
 use Rattle.std.specs.List.Sorted.{IsSearchInRange, IsBinarySearchResult}
 use Rattle.std.proofs.lemmas.Bool.Decides.{nat_tests}
@@ -10,7 +10,6 @@ use Rattle.std.proofs.lemmas.Option.{slice_get-get_or, slice_get_within}
 use Rattle.std.proofs.lemmas.Slice.Eq.{bytes_eq-Decides}
 use Rattle.tz_types.specs.Order.{ascends, name_before}
 use Rattle.tz_specs.specs.Value.{is_exactly}
-use Rattle.tz_rules.specs.NamePlace.{name_place}
 use Rattle.tz_rules.proofs.NameOrder.{compared, searched}
 use Rattle.tz_rules.proofs.NamesFound.{found-position, missing-position}
 

@@ -1,9 +1,9 @@
 -- Lines of zones that give their rule sets by the places of the sets.
-use Rattle.std.proofs.Common.{◌≡◌, ℕ, ◌+◌, ◌<◌, Bool, true, false, IsTrue, List, [], ◌∷◌, ◌++◌, length, map, get_or, set, take, drop, Option, Some, None, is_some, option_map, refl, sym, ap, ◌∙◌, arith}
+use Rattle.std.proofs.Common.{◌≡◌, ℕ, ◌+◌, ◌<◌, Bool, true, false, IsTrue, List, [], ◌∷◌, length, map, get_or, set, take, drop, Option, Some, None, is_some, option_map, refl, sym, ap, ◌∙◌, arith}
 use Rattle.std.specs.Prelude.{nat_lt}
-use Rattle.std.proofs.lemmas.Bool.{and_parts, and_from}
+use Rattle.std.proofs.lemmas.Bool.{and_from}
 use Rattle.std.proofs.lemmas.Bool.Decides.{nat_tests}
-use Rattle.std.specs.List.{list_all, position, find, slice_get}
+use Rattle.std.specs.List.{list_all, find, slice_get}
 use Rattle.std.specs.Option.{is_none}
 use Rattle.std.proofs.lemmas.List.{map-append, get_or-drop, drop-drop, take_more, take_more_set, drop-set-lt}
 use Rattle.std.proofs.lemmas.List.Folds.{list_all-append}
@@ -13,16 +13,15 @@ use Rattle.tz_types.specs.declared.rule_set.RuleSet.{RuleSet}
 use Rattle.tz_types.specs.declared.zone_line.LineRules.{LineRules}
 use Rattle.tz_types.specs.declared.zone_line.LineRules.TheVariants as rules
 use Rattle.tz_types.specs.declared.zone_line.ZoneLine.{ZoneLine}
-use Rattle.tz_types.specs.declared.zone.Zone.{Zone}
 use Rattle.tz_specs.specs.Choice.{◌>>=◌}
 use Rattle.tz_specs.specs.Until.{Rules}
 use Rattle.tz_specs.specs.Value.{is_exactly}
-use Rattle.tz_specs.specs.Written.{WrittenRules, NoRules, RulesNamed, set_names, written_rules, written_line, written_zone}
+use Rattle.tz_specs.specs.Written.{WrittenRules, NoRules, RulesNamed, set_names, written_rules, written_line}
 use Rattle.tz_specs.specs.Whole.{following_in}
 use Rattle.tz_specs.specs.Sound.{is_known}
 use Rattle.tz_rules.specs.Continued.{is_named_by}
 use Rattle.tz_rules.specs.SetPlace.{set_place_of}
-use Rattle.tz_rules.specs.Settled.{place_at, has_set, settled_rules, ArePlaces, AreSettled, AreSettledZones}
+use Rattle.tz_rules.specs.Settled.{place_at, has_set, settled_rules, AreSettled}
 use Rattle.tz_rules.proofs.PlacesOfNames.{name_there, place_within, place_of_found}
 
 abbrev name_of : RuleSet → List ℕ

@@ -1,13 +1,12 @@
 -- Lines of zones without faults lead through all of time.
-use Rattle.std.proofs.Common.{◌≡◌, ℕ, ◌<◌, Bool, true, false, ◌&&◌, if◌then◌else◌, IsTrue, List, [], ◌∷◌, length, map, get_or, Option, Some, None, is_some, option_map, Ordering, Ok, Err, refl, sym, ap, ◌∙◌, arith, ℤ, int_lt, ◌<ℤ◌}
-use Rattle.std.specs.Prelude.{nat_lt}
+use Rattle.std.proofs.Common.{◌≡◌, ℕ, ◌<◌, Bool, true, false, ◌&&◌, if◌then◌else◌, IsTrue, List, [], ◌∷◌, length, map, Option, Some, None, is_some, option_map, Ordering, Ok, refl, sym, ap, ◌∙◌, arith, ℤ, int_lt, ◌<ℤ◌}
 use Rattle.std.proofs.lemmas.Bool.{and_parts, and_from}
 use Rattle.std.proofs.lemmas.Bool.Decides.{nat_tests}
 use Rattle.std.proofs.lemmas.Cmp.{nat_list_cmp_total}
 use Rattle.std.proofs.lemmas.Option.{slice_get-map, slice_get-get_or, slice_get_within, get_or_from_slice_get}
 use Rattle.std.specs.Ordering.{int_eq, ordering_reverse}
 use Rattle.std.specs.declared.cmp.Ordering.TheVariants.{Less, Equal, Greater}
-use Rattle.std.specs.List.{list_all, filter_map, flat_map, last_or, find, position, slice_get}
+use Rattle.std.specs.List.{list_all, filter_map, flat_map, last_or, find, slice_get}
 use Rattle.std.proofs.lemmas.Int.{ints}
 use Rattle.tz_types.specs.Order.{ascends, name_before}
 use Rattle.tz_types.specs.declared.cause.Cause.TheVariants as causes
@@ -21,7 +20,6 @@ use Rattle.tz_types.specs.declared.until.Until.{Until}
 use Rattle.tz_types.specs.declared.database.Db.{Db}
 use Rattle.tz_specs.specs.Choice.{◌>>=◌}
 use Rattle.tz_specs.specs.Causes.{fault_at}
-use Rattle.tz_specs.specs.Until.{Following, Nothing, Fixed, Rules, until_instant}
 use Rattle.tz_specs.specs.Value.{is_exactly}
 use Rattle.tz_specs.specs.Expansion.{first_instant, end_of_time, following_of, finish_of, periods_from, periods_of}
 use Rattle.tz_specs.specs.Sound.{leads, is_known, is_sound_zone}
@@ -31,7 +29,7 @@ use Rattle.tz_specs.proofs.UntilTimeLemmas.{line_inside_time}
 use Rattle.tz_rules.specs.Continued.{are_continued}
 use Rattle.tz_rules.specs.NamePlace.{name_place}
 use Rattle.tz_rules.proofs.NameOrder.{compared, searched}
-use Rattle.tz_rules.proofs.NamesFound.{found-find, found-position}
+use Rattle.tz_rules.proofs.NamesFound.{found-find}
 use Rattle.tz_rules.proofs.Faultless.{none_first, none_second, none_of_first, none_of_rest, no_fault}
 
 -- ---- what stands at a place has that place, where names ascend

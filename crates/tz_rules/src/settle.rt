@@ -15,6 +15,7 @@ use std::alloc::Global;
 use std::sync::Arc;
 use tz_types::{Db, Items, NoMemory, RuleSet, Shared};
 
+/// The sets, each where many zones can share it.
 fn shared_sets(alloc: Global, sets: Items<RuleSet>) -> Result<Items<Shared<RuleSet>>, NoMemory>
     ensures { IfOk result (λ shared. shared ≡ sets) }
 {

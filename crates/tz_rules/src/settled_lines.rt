@@ -22,11 +22,11 @@ fn settled_rules(rules: LineRules, places: &[Option<u32>]) -> LineRules
             Some(Some(place)) => LineRules::Set(*place),
             _ => unreachable!(),
         },
-        LineRules::Plain => LineRules::Plain,
-        LineRules::Fixed { save, daylight } => LineRules::Fixed { save, daylight },
+        LineRules::Plain | LineRules::Fixed { .. } => rules,
     }
 }
 
+/// Gives the line its set by the set's place; it says the same then.
 fn settle_line(line: &mut ZoneLine, places: &[Option<u32>])
     requires { IsTrue (has_set places.now line.old.rules) }
     ensures rules { line.new.rules ≡ settled_rules places.now line.old.rules }
@@ -36,6 +36,7 @@ fn settle_line(line: &mut ZoneLine, places: &[Option<u32>])
     line.rules = settled_rules(line.rules, places);
 }
 
+/// The lines of a zone, each changed where it lies.
 fn settled_lines(lines: Items<ZoneLine>, places: &[Option<u32>]) -> Items<ZoneLine>
     requires { IsTrue (have_sets places.now lines) }
     ensures { (sets : List RuleSet) → (names : List (List ℕ)) → ArePlaces places.now sets names → AreSettled sets names lines result }

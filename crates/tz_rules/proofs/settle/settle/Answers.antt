@@ -1,5 +1,5 @@
 use Rattle.std.proofs.Common.{refl}
-use Rattle.tz_rules.proofs.BuiltDatabases.{sets_had, settled_apart, placed_apart, few_settled, few_placed, as_many_reached, all_reached, is_built_of}
+use Rattle.tz_rules.proofs.BuiltDatabases.{sets_had, settled_apart, placed_apart, few_settled, few_placed, all_reached, is_built_of}
 use Rattle.tz_rules.proofs.settle.settle.Goals as goal
 
 pub settled_zones-requires : goal.settled_zones-requires
