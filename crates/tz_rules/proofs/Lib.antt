@@ -13,3 +13,6 @@ pub mod Leasts
 pub mod NameOrder
 pub mod NamesFound
 pub mod FirstLines
+pub mod FirstStops
+pub mod Ways
+pub mod ZonesReached

@@ -16,4 +16,5 @@ pub mod Parts
 pub mod LineOrder
 pub mod Built
 pub mod Reach
+pub mod Stops
 pub mod Messages
