@@ -16,3 +16,6 @@ pub mod FirstLines
 pub mod FirstStops
 pub mod Ways
 pub mod ZonesReached
+pub mod FollowedSets
+pub mod LastLines
+pub mod MissingTargets

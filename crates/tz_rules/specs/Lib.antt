@@ -16,5 +16,6 @@ pub mod Parts
 pub mod LineOrder
 pub mod Built
 pub mod Reach
+pub mod SetPlace
 pub mod Stops
 pub mod Messages
