@@ -21,3 +21,9 @@ pub mod Faultless
 pub mod NamesApart
 pub mod ZoneTime
 pub mod BuiltDatabases
+pub mod FirstStops
+pub mod Ways
+pub mod ZonesReached
+pub mod FollowedSets
+pub mod LastLines
+pub mod MissingTargets

@@ -19,4 +19,5 @@ pub mod Reach
 pub mod SetPlace
 pub mod ZonePlace
 pub mod Settled
+pub mod Stops
 pub mod Messages

@@ -1,0 +1,25 @@
+use Rattle.std.proofs.Common.{◌≡◌, map}
+use Rattle.std.specs.Ordering.{nat_cmp}
+use Rattle.std.specs.Cmp.Lexicographic.{slice_cmp}
+use Rattle.std.specs.BTreeMap.{get}
+use Rattle.std.specs.List.{filter_map}
+use Rattle.tz_specs.specs.Written.{written_link}
+use Rattle.tz_specs.specs.Whole.{zone_name, names_given}
+use Rattle.tz_rules.specs.Parts.{contents_given}
+use Rattle.tz_specs.specs.Written.{written_zone}
+use Rattle.tz_rules.specs.Told.{told_with}
+use Rattle.tz_rules.specs.FirstLine.{later_name}
+use Rattle.tz_rules.proofs.FirstLines.{same_repeats}
+use Rattle.tz_rules.proofs.ToldLists.{told_in_turn}
+use Rattle.tz_rules.proofs.repeated_name.tell_repeated_names.Goals as goal
+
+pub returns : goal.returns
+returns c =
+    let least_of = get (slice_cmp nat_cmp) c.in_ok-lines.lines in
+    let names = names_given (contents_given c.args.parts.now) in
+    let same = same_repeats least_of names c.in_ok-lines.ensures in
+    let zones = filter_map zone_name (map (written_zone c.args.parts.now.names) c.args.parts.now.zones) in
+    let links = map (λ link. (link.name, link.line)) (map written_link c.args.parts.now.links) in
+    let after_zones : c.tell_later_zones.new.told.least ≡ told_with c.args.told.now.least (filter_map (later_name least_of) zones) = c.tell_later_zones.ensures in
+    let after_links : c.tell_later_links.new.told.least ≡ told_with c.tell_later_zones.new.told.least (filter_map (later_name least_of) links) = c.tell_later_links.ensures in
+    rw (← same) (told_in_turn (later_name least_of) zones links c.args.told.now.least c.tell_later_zones.new.told.least c.tell_later_links.new.told.least after_zones after_links)
