@@ -1,8 +1,9 @@
-//! When rules occur, which occurrence is in effect at an instant, and when the lines of a zone end.
+//! When rules occur, which occurrence is in effect at an instant, when the lines of a zone end, and the database of a text.
 //!
 //! The layer above uses `last_at_or_before` and `next_after`, the occurrence in effect at an instant and the next change;
 //! `until_instant`, the instant at which a line with an UNTIL ends; `InForce`, what is in force, with `letters_before` for
-//! the time before any occurrence is in effect; and `abbreviation`, how that time is called.
+//! the time before any occurrence is in effect; `abbreviation`, how that time is called; and `build`, which makes the
+//! database of `Parts`, what the lines of a text gave, or else tells the least fault of the text as a whole.
 #![tactic(auto)]
 
 mod coming;
