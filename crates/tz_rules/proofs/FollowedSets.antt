@@ -10,7 +10,7 @@ use Rattle.tz_types.specs.declared.rule_set.RuleSet.{RuleSet}
 use Rattle.tz_types.specs.declared.zone_line.LineRules.TheVariants as line_rules
 use Rattle.tz_specs.specs.Choice.{◌>>=◌}
 use Rattle.tz_specs.specs.Value.{is_exactly}
-use Rattle.tz_specs.specs.Until.{Following, Rules}
+use Rattle.tz_specs.specs.Until.{Rules}
 use Rattle.tz_specs.specs.Written.{written_rules}
 use Rattle.tz_specs.specs.Whole.{following_in}
 use Rattle.tz_rules.specs.SetPlace.{set_place_of}

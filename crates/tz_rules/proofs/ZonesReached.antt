@@ -8,12 +8,11 @@ use Rattle.tz_types.specs.declared.zone.Zone.{Zone}
 use Rattle.tz_types.specs.declared.link.Link.{Link}
 use Rattle.tz_specs.specs.Value.{is_exactly}
 use Rattle.tz_specs.specs.Written.{written_zone, written_link}
-use Rattle.tz_specs.specs.Contents.{Contents}
 use Rattle.tz_specs.specs.Whole.{is_zone_name, reached, zone_of_link}
 use Rattle.tz_rules.specs.declared.stop.Stop.{Stop}
 use Rattle.tz_rules.specs.declared.stop.Stop.TheVariants as stops
 use Rattle.tz_rules.specs.Reach.{name_at}
-use Rattle.tz_rules.specs.Stops.{zone_names, link_names, first_stop, known_stop, stop_of, targets_of, further, go, zone_place}
+use Rattle.tz_rules.specs.Stops.{zone_names, link_names, first_stop, known_stop, stop_of, targets_of, next_stop, stop_after, zone_place}
 
 -- the first zone of a name, if there is one
 data FirstZone (names : List (List ℕ)) (zones : List Zone) (name : List ℕ) : Type 0 where
@@ -71,24 +70,24 @@ leads names zones links name known is = by_first (first_zone names zones name) (
 
 -- a zone is the end of a way, and so is nowhere
 
-stays_zone : (targets : List Stop) (steps place : ℕ) → go targets steps (stops.Zone place) ≡ stops.Zone place
-unfolding go
+stays_zone : (targets : List Stop) (steps place : ℕ) → stop_after targets steps (stops.Zone place) ≡ stops.Zone place
+unfolding stop_after
 stays_zone targets zero place = refl
 stays_zone targets (suc steps) place = stays_zone targets steps place
 
-stays_nowhere : (targets : List Stop) (steps : ℕ) → go targets steps stops.Nowhere ≡ stops.Nowhere
-unfolding go
+stays_nowhere : (targets : List Stop) (steps : ℕ) → stop_after targets steps stops.Nowhere ≡ stops.Nowhere
+unfolding stop_after
 stays_nowhere targets zero = refl
 stays_nowhere targets (suc steps) = stays_nowhere targets steps
 
 module _ (names : List (List ℕ)) (zones : List Zone) (links : List Link) (known : List ℕ → Option Stop) (are : (name : List ℕ) → known name ≡ known_stop zones links name) where
-  target_at : (place : ℕ) (link : Link) → slice_get links place ≡ Some link → further (targets_of known links) (stops.Link place) ≡ stop_of known link.target
+  target_at : (place : ℕ) (link : Link) → slice_get links place ≡ Some link → next_stop (targets_of known links) (stops.Link place) ≡ stop_of known link.target
   target_at place link at =
       let here : slice_get (targets_of known links) place ≡ Some (stop_of known link.target) = slice_get-map (λ (link : Link). stop_of known link.target) links place ∙ rw at refl in
       rw here refl
 
-  reach_is : (steps : ℕ) (name : List ℕ) → name_at zones (zone_place (go (targets_of known links) steps (stop_of known name))) ≡ reached (map (written_zone names) zones) (map written_link links) steps name
-  unfolding go
+  reach_is : (steps : ℕ) (name : List ℕ) → name_at zones (zone_place (stop_after (targets_of known links) steps (stop_of known name))) ≡ reached (map (written_zone names) zones) (map written_link links) steps name
+  unfolding stop_after
   reach_is zero name =
       elim (leads names zones links name (known name) (are name)) [
         | to_zone place is at named ↦ rw (is, named) at
@@ -102,12 +101,12 @@ module _ (names : List (List ℕ)) (zones : List Zone) (links : List Link) (know
         | to_nothing is named found ↦ rw (is, named, found, stays_nowhere (targets_of known links) steps) refl
       ]
 
-  ends_are : (steps : ℕ) (some : List Link) → map (name_at zones) (map zone_place (map (go (targets_of known links) steps) (targets_of known some))) ≡ map (λ link. reached (map (written_zone names) zones) (map written_link links) steps link.target) (map written_link some)
+  ends_are : (steps : ℕ) (some : List Link) → map (name_at zones) (map zone_place (map (stop_after (targets_of known links) steps) (targets_of known some))) ≡ map (λ link. reached (map (written_zone names) zones) (map written_link links) steps link.target) (map written_link some)
   ends_are steps [] = refl
   ends_are steps (link ∷ some) = rw (reach_is steps link.target) (rw (ends_are steps some) refl)
 
   -- the zones that links reach are those at the ends of their ways
-  pub zones_are : (targets ends : List Stop) (places : List (Option ℕ)) → targets ≡ targets_of known links → ends ≡ map (go targets (length targets)) targets → places ≡ map zone_place ends → map (name_at zones) places ≡ map (zone_of_link (record { sets = []; zones = map (written_zone names) zones; links = map written_link links })) (map written_link links)
+  pub zones_are : (targets ends : List Stop) (places : List (Option ℕ)) → targets ≡ targets_of known links → ends ≡ map (stop_after targets (length targets)) targets → places ≡ map zone_place ends → map (name_at zones) places ≡ map (zone_of_link (record { sets = []; zones = map (written_zone names) zones; links = map written_link links })) (map written_link links)
   zones_are targets ends places targets_are ends_is places_are =
       let steps : length (targets_of known links) ≡ length (map written_link links) =
       length-map links (λ (link : Link). stop_of known link.target) ∙ sym (length-map links written_link) in

@@ -32,15 +32,15 @@ abbrev pub targets_of : (List ℕ → Option Stop) → List Link → List Stop
 targets_of known links = map (λ link. stop_of known link.target) links
 
 -- one link further, by where each link leads; a zone is the end of the way
-abbrev pub further : List Stop → Stop → Stop
-further targets (stops.Zone place) = stops.Zone place
-further targets (stops.Link place) = unwrap_or (slice_get targets place) stops.Nowhere
-further targets stops.Nowhere = stops.Nowhere
+abbrev pub next_stop : List Stop → Stop → Stop
+next_stop targets (stops.Zone place) = stops.Zone place
+next_stop targets (stops.Link place) = unwrap_or (slice_get targets place) stops.Nowhere
+next_stop targets stops.Nowhere = stops.Nowhere
 
 -- so many links further
-unfoldable pub go : List Stop → ℕ → Stop → Stop
-go targets zero stop = stop
-go targets (suc steps) stop = go targets steps (further targets stop)
+unfoldable pub stop_after : List Stop → ℕ → Stop → Stop
+stop_after targets zero stop = stop
+stop_after targets (suc steps) stop = stop_after targets steps (next_stop targets stop)
 
 -- the place of the zone where a way ends
 abbrev pub zone_place : Stop → Option ℕ

@@ -1,5 +1,5 @@
 //! The zones that links reach: the zone of the target's name, or what the target of the earliest link of that name reaches.
-ghost use Rattle.std.specs.Prelude.{◌≡◌, ◌≤◌, ℕ, [], List, None, length, map, IfOk, OnOk};
+ghost use Rattle.std.specs.Prelude.{◌≡◌, ◌≤◌, ℕ, [], List, length, map, IfOk};
 ghost use Rattle.std.specs.Ordering.{nat_cmp};
 ghost use Rattle.std.specs.Cmp.Lexicographic.{slice_cmp};
 ghost use Rattle.std.specs.BTreeMap.{get};
@@ -7,62 +7,12 @@ ghost use Rattle.tz_types.specs.Limit.{most_zones, most_links};
 ghost use Rattle.tz_specs.specs.Written.{written_zone, written_link};
 ghost use Rattle.tz_specs.specs.Whole.{zone_of_link};
 ghost use Rattle.tz_rules.specs.Reach.{name_at};
-ghost use Rattle.tz_rules.specs.Stops.{zone_names, link_names, first_stop, known_stop, stop_of, targets_of, further, go, zone_place};
-ghost use Rattle.tz_rules.specs.declared.stop.Stop.TheVariants as stops;
+ghost use Rattle.tz_rules.specs.Stops.{targets_of, next_stop, stop_after, zone_place};
 
-use crate::stop::Stop;
+use crate::stop::{Stop, known_stops, stop_of};
 use std::alloc::Global;
 use std::collections::BTreeMap;
 use tz_types::{Label, Link, NoMemory, Zone};
-
-/// Notes the zones from the last to the first, so that the first of a name is what stays.
-fn note_zones(known: &mut BTreeMap<Label, Stop>, zones: &[Zone]) -> Result<(), NoMemory>
-    requires few { length zones.now ≤ most_zones }
-    ensures { OnOk result ((name : List ℕ) →
-        get (slice_cmp nat_cmp) known.new name
-        ≡ first_stop stops.Zone 0 name (zone_names zones.now) (get (slice_cmp nat_cmp) known.old name)) }
-{
-    for (place, zone) in zones.iter().enumerate().rev() {
-        known.insert(zone.name.copied(), Stop::Zone(place as u32))?;
-    }
-    Ok(())
-}
-
-/// Notes the links from the last to the first, so that the first of a name is what stays.
-fn note_links(known: &mut BTreeMap<Label, Stop>, links: &[Link]) -> Result<(), NoMemory>
-    requires few { length links.now ≤ most_links }
-    ensures { OnOk result ((name : List ℕ) →
-        get (slice_cmp nat_cmp) known.new name
-        ≡ first_stop stops.Link 0 name (link_names links.now) (get (slice_cmp nat_cmp) known.old name)) }
-{
-    for (place, link) in links.iter().enumerate().rev() {
-        known.insert(link.name.copied(), Stop::Link(place as u32))?;
-    }
-    Ok(())
-}
-
-/// Where each name leads; a zone comes before a link of its name.
-fn known_stops(
-    alloc: Global,
-    zones: &[Zone],
-    links: &[Link],
-) -> Result<BTreeMap<Label, Stop>, NoMemory>
-    requires few_zones { length zones.now ≤ most_zones }
-    requires few_links { length links.now ≤ most_links }
-    ensures { IfOk result (λ known. (name : List ℕ) → get (slice_cmp nat_cmp) known name ≡ known_stop zones.now links.now name) }
-{
-    let mut known = BTreeMap::new(alloc);
-    note_links(&mut known, links)?;
-    note_zones(&mut known, zones)?;
-    Ok(known)
-}
-
-/// Where the name leads.
-fn stop_of(known: &BTreeMap<Label, Stop>, name: &Label) -> Stop
-    ensures { result ≡ stop_of (get (slice_cmp nat_cmp) known.now) name.now }
-{
-    known.get(name).copied().unwrap_or(Stop::Nowhere)
-}
 
 /// Where the target of each link leads.
 fn targets_of(
@@ -80,8 +30,8 @@ fn targets_of(
 }
 
 /// One link further, by where each link leads; a zone is the end of the way.
-fn further(targets: &[Stop], stop: Stop) -> Stop
-    ensures { result ≡ further targets.now stop }
+fn next_stop(targets: &[Stop], stop: Stop) -> Stop
+    ensures { result ≡ next_stop targets.now stop }
 {
     match stop {
         Stop::Zone(place) => Stop::Zone(place),
@@ -94,12 +44,12 @@ fn further(targets: &[Stop], stop: Stop) -> Stop
 }
 
 /// The same from each of these stops.
-fn all_further(alloc: Global, targets: &[Stop], from: &[Stop]) -> Result<Vec<Stop>, NoMemory>
-    ensures { IfOk result (λ ends. ends.items ≡ map (further targets.now) from.now) }
+fn next_stops(alloc: Global, targets: &[Stop], from: &[Stop]) -> Result<Vec<Stop>, NoMemory>
+    ensures { IfOk result (λ ends. ends.items ≡ map (next_stop targets.now) from.now) }
 {
     let ends = from
         .iter()
-        .map(|stop| further(targets, *stop))
+        .map(|stop| next_stop(targets, *stop))
         .collect::<Vec<_>>(alloc)?;
     Ok(ends)
 }
@@ -107,16 +57,16 @@ fn all_further(alloc: Global, targets: &[Stop], from: &[Stop]) -> Result<Vec<Sto
 /// Where each way ends, as many links further as there are. Each round doubles how many links the stops ahead span, and so
 /// the rounds are as many as that count has binary digits.
 fn ends_of_ways(alloc: Global, targets: &[Stop]) -> Result<Vec<Stop>, NoMemory>
-    ensures { IfOk result (λ ends. ends.items ≡ map (go targets.now (length targets.now)) targets.now) }
+    ensures { IfOk result (λ ends. ends.items ≡ map (stop_after targets.now (length targets.now)) targets.now) }
 {
     let mut ends = targets.to_vec(alloc)?;
     let mut ahead = targets.to_vec(alloc)?;
     let mut left = targets.len();
     while left > 0 {
         if left % 2 == 1 {
-            ends = all_further(alloc, &ahead, &ends)?;
+            ends = next_stops(alloc, &ahead, &ends)?;
         }
-        ahead = all_further(alloc, &ahead, &ahead)?;
+        ahead = next_stops(alloc, &ahead, &ahead)?;
         left /= 2;
     }
     Ok(ends)

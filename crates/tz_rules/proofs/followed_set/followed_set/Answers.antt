@@ -1,7 +1,5 @@
-use Rattle.std.proofs.Common.{◌≡◌, None, Some, map, option_map, option_copied, get_or, ap, sym, ◌∙◌}
+use Rattle.std.proofs.Common.{◌≡◌, None, Some, option_copied, ap, ◌∙◌}
 use Rattle.std.specs.List.{slice_get}
-use Rattle.tz_types.specs.declared.rule_set.RuleSet.{RuleSet}
-use Rattle.tz_specs.specs.Until.{Following, Rules}
 use Rattle.tz_rules.proofs.FollowedSets.{got, followed_at}
 use Rattle.tz_rules.proofs.followed_set.followed_set.Goals as goal
 

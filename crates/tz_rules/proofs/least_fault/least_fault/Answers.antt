@@ -1,4 +1,4 @@
-use Rattle.std.proofs.Common.{◌≡◌, ◌++◌, None, map}
+use Rattle.std.proofs.Common.{◌≡◌, ◌++◌, None}
 use Rattle.std.specs.List.{filter_map, flat_map}
 use Rattle.tz_specs.specs.Expansion.{first_instant}
 use Rattle.tz_specs.specs.Whole.{missing_continuation, unknown_rule, names_given, repeated_name, missing_target, late_lines, whole_faults}

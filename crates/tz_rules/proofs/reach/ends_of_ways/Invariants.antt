@@ -1,11 +1,11 @@
 use Rattle.std.proofs.Common.{◌≡◌, length, map}
-use Rattle.tz_rules.specs.Stops.{go}
+use Rattle.tz_rules.specs.Stops.{stop_after}
 use Rattle.tz_rules.proofs.reach.ends_of_ways.Given as goal
 
 -- so many links further as are left, over the stops ahead
 abbrev pub invariant-loop-left : goal.invariant-loop-left
 invariant-loop-left l =
-    map (go l.ahead.items l.left) l.ends.items ≡ map (go l.targets (length l.targets)) l.targets
+    map (stop_after l.ahead.items l.left) l.ends.items ≡ map (stop_after l.targets (length l.targets)) l.targets
 
 abbrev pub decreases-loop-left : goal.decreases-loop-left
 decreases-loop-left l = l.left

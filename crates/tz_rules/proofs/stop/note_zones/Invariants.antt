@@ -4,7 +4,7 @@ use Rattle.std.specs.Cmp.Lexicographic.{slice_cmp}
 use Rattle.std.specs.BTreeMap.{get}
 use Rattle.tz_rules.specs.Stops.{zone_names, first_stop}
 use Rattle.tz_rules.specs.declared.stop.Stop.TheVariants as stops
-use Rattle.tz_rules.proofs.reach.note_zones.Given as goal
+use Rattle.tz_rules.proofs.stop.note_zones.Given as goal
 
 -- what is known when the zones that are left are noted too
 abbrev pub invariant-loop-place : goal.invariant-loop-place

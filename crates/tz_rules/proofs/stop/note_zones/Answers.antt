@@ -1,11 +1,11 @@
-use Rattle.std.proofs.Common.{◌≡◌, Some, cond, arith, ◌∙◌, map}
-use Rattle.std.specs.Ordering.{nat_cmp, is_eq}
+use Rattle.std.proofs.Common.{arith, ◌∙◌}
+use Rattle.std.specs.Ordering.{nat_cmp}
 use Rattle.std.specs.Cmp.Lexicographic.{slice_cmp}
 use Rattle.std.specs.BTreeMap.{get}
 use Rattle.tz_types.specs.declared.zone.Zone.{Zone}
 use Rattle.tz_rules.specs.declared.stop.Stop.TheVariants as stops
 use Rattle.tz_rules.proofs.FirstStops.{noted_last}
-use Rattle.tz_rules.proofs.reach.note_zones.Goals as goal
+use Rattle.tz_rules.proofs.stop.note_zones.Goals as goal
 
 pub loop-place-preserved : goal.loop-place-preserved
 loop-place-preserved c =
