@@ -16,6 +16,8 @@ mod in_force;
 mod late_line;
 mod least_fault;
 mod letters;
+#[cfg(test)]
+mod link_rows;
 mod mark;
 mod missing_target;
 mod next_change;
