@@ -17,6 +17,8 @@ mod in_force;
 mod late_line;
 mod least_fault;
 mod letters;
+#[cfg(test)]
+mod link_rows;
 mod link_zones;
 mod mark;
 mod missing_target;
