@@ -1,19 +1,23 @@
 -- The zone that was begun last, and its last line.
-use Rattle.std.proofs.Common.{◌≡◌, ℕ, zero, suc, ◌+◌, ◌-◌, ◌<◌, ◌≤◌, true, nat_le, IsTrue, List, [], ◌∷◌, ◌++◌, length, map, get_or, set, Option, Some, None, Result, Ok, Err, is_some, option_map, refl, sym, ap, ◌∙◌, arith}
-use Rattle.std.proofs.lemmas.Bool.{and_parts}
-use Rattle.std.specs.List.{last_or, slice_get}
-use Rattle.std.specs.Result.{OnOk, OnErr}
-use Rattle.std.proofs.lemmas.Option.{slice_get-get_or}
-use Rattle.std.proofs.lemmas.List.{length-map, length-append, map-append}
+use Rattle.std.proofs.Common.{◌≡◌, ℕ, zero, suc, ◌+◌, ◌-◌, Bool, true, nat_le, IsTrue, List, [], ◌∷◌, ◌++◌, length, map, get_or, set, Option, Some, None, is_some, option_map, refl, sym, ap, ◌∙◌, arith}
+use Rattle.std.proofs.lemmas.Bool.{and_parts, and_from}
+use Rattle.std.specs.List.{last_or, list_all, slice_get}
+use Rattle.std.proofs.lemmas.List.{length-map, map-append}
+use Rattle.std.proofs.lemmas.List.Folds.{list_all-append}
 use Rattle.tz_types.specs.Limit.{most_lines}
 use Rattle.tz_types.specs.declared.until.Until.{Until}
-use Rattle.tz_specs.specs.Written.{WrittenLine, WrittenZone, written_until}
-use Rattle.tz_specs.specs.Contents.{last_lines, wants_line, with_line}
-use Rattle.tz_records.specs.Entry.{written_entry_line}
-use Rattle.tz_lines.specs.Continued.{are_continued}
-use Rattle.tz_lines.specs.Gathered.{written_entry_zone}
-use Rattle.tz_records.specs.declared.entry.EntryLine.{EntryLine}
-use Rattle.tz_lines.specs.declared.contents.EntryZone.{EntryZone}
+use Rattle.tz_types.specs.declared.zone_line.ZoneLine.{ZoneLine}
+use Rattle.tz_types.specs.declared.zone.Zone.{Zone}
+use Rattle.tz_types.specs.declared.rule_set.RuleSet.{RuleSet}
+use Rattle.tz_types.specs.declared.link.Link.{Link}
+use Rattle.tz_specs.specs.Written.{WrittenZone, written_until, written_line, written_zone, written_set, written_link}
+use Rattle.tz_specs.specs.Contents.{Contents, last_lines, wants_line, with_line}
+use Rattle.tz_rules.specs.Continued.{are_continued}
+use Rattle.tz_lines.specs.LastZone.{with_zone_line}
+
+-- the contents of sets and links as they stand, and of zones as they are written
+abbrev pub contents_by : List RuleSet → List Link → List WrittenZone → Contents
+contents_by sets links zones = record { sets = map written_set sets; zones = zones; links = map written_link links }
 
 last_at : {X : Type 0} (xs : List X) → slice_get xs (length xs - 1) ≡ last_or None xs
 last_at [] = refl
@@ -27,84 +31,82 @@ last_map f before [] = refl
 last_map f before (x ∷ xs) = last_map f (Some x) xs
 
 -- the last element, by what `last` answers
-pub last_is : {X Y : Type 0} (f : X → Y) (xs : List X) (x : X) → Some x ≡ slice_get xs (length xs - 1) → last_or None (map f xs) ≡ Some (f x)
+last_is : {X Y : Type 0} (f : X → Y) (xs : List X) (x : X) → Some x ≡ slice_get xs (length xs - 1) → last_or None (map f xs) ≡ Some (f x)
 last_is f xs x e = last_map f None xs ∙ ap (option_map f) (sym (last_at xs) ∙ sym e)
 
-pub last_lines_of : (zones : List EntryZone) (zone : EntryZone) → Some zone ≡ slice_get zones (length zones - 1) → last_lines (map written_entry_zone zones) ≡ map written_entry_line zone.lines
-last_lines_of zones zone e = rw (last_is written_entry_zone zones zone e) refl
+last_lines_of : (names : List (List ℕ)) (zones : List Zone) (zone : Zone) → Some zone ≡ slice_get zones (length zones - 1) → last_lines (map (written_zone names) zones) ≡ map (written_line names) zone.lines
+last_lines_of names zones zone e = rw (last_is (written_zone names) zones zone e) refl
 
-pub until_some : (until : Option Until) → is_some until ≡ is_some (option_map written_until until)
+until_some : (until : Option Until) → is_some until ≡ is_some (option_map written_until until)
 until_some None = refl
 until_some (Some until) = refl
 
-pub waits_by_line : (zones : List EntryZone) (zone : EntryZone) (line : EntryLine) → Some zone ≡ slice_get zones (length zones - 1) → Some line ≡ slice_get zone.lines (length zone.lines - 1) → is_some line.until ≡ wants_line (last_lines (map written_entry_zone zones))
-waits_by_line zones zone line e h =
-    rw (last_lines_of zones zone e) (rw (last_is written_entry_line zone.lines line h) (until_some line.until))
+pub waits_by_line : (names : List (List ℕ)) (zones : List Zone) (zone : Zone) (line : ZoneLine) → Some zone ≡ slice_get zones (length zones - 1) → Some line ≡ slice_get zone.lines (length zone.lines - 1) → is_some line.until ≡ wants_line (last_lines (map (written_zone names) zones))
+waits_by_line names zones zone line e h =
+    rw (last_lines_of names zones zone e) (rw (last_is (written_line names) zone.lines line h) (until_some line.until))
 
-pub full_by_lines : (zones : List EntryZone) (zone : EntryZone) → Some zone ≡ slice_get zones (length zones - 1) → nat_le most_lines (length zone.lines) ≡ nat_le most_lines (length (last_lines (map written_entry_zone zones)))
-full_by_lines zones zone e =
-    rw (last_lines_of zones zone e) (rw (length-map zone.lines written_entry_line) refl)
+pub full_by_lines : (names : List (List ℕ)) (zones : List Zone) (zone : Zone) → Some zone ≡ slice_get zones (length zones - 1) → nat_le most_lines (length zone.lines) ≡ nat_le most_lines (length (last_lines (map (written_zone names) zones)))
+full_by_lines names zones zone e =
+    rw (last_lines_of names zones zone e) (rw (length-map zone.lines (written_line names)) refl)
+
+-- with one more line, where the last is lent and written back
+
+abbrev zone_by : List ℕ → List ZoneLine → Zone
+zone_by name lines = record { name = name; lines = lines }
+
+same_zone : (old new : Zone) (line : ZoneLine) → new.name ≡ old.name → new.lines ≡ old.lines ++ line ∷ [] → new ≡ zone_by old.name (old.lines ++ line ∷ [])
+same_zone old new line named more = rw (← named, ← more) refl
+
+pub added_line : (zones : List Zone) (line : ZoneLine) (place : ℕ) (old new : Zone) → place + 1 ≡ length zones → old ≡ get_or zones place old → new.name ≡ old.name → new.lines ≡ old.lines ++ line ∷ [] → set zones place new ≡ with_zone_line line zones
+added_line [] line place old new last is named more = absurd (omega arith)
+added_line (zone ∷ []) line place old new last is named more =
+    let none : place ≡ 0 = omega arith in
+    let first : old ≡ zone = rw none at is in
+    rw (none, ← first) (ap (λ (it : Zone). it ∷ []) (same_zone old new line named more))
+added_line (zone ∷ next ∷ zones) line zero old new last is named more = absurd (omega arith)
+added_line (zone ∷ next ∷ zones) line (suc place) old new last is named more =
+    ap (λ (later : List Zone). zone ∷ later) (added_line (next ∷ zones) line place old new (omega arith) is named more)
+
+-- what is written is the same with one more line
+pub written_with_line : (names : List (List ℕ)) (line : ZoneLine) (zones : List Zone) → map (written_zone names) (with_zone_line line zones) ≡ with_line (written_line names line) (map (written_zone names) zones)
+written_with_line names line [] = refl
+written_with_line names line (zone ∷ []) = rw (map-append (written_line names) zone.lines (line ∷ [])) refl
+written_with_line names line (zone ∷ next ∷ zones) =
+    ap (λ (later : List WrittenZone). written_zone names zone ∷ later) (written_with_line names line (next ∷ zones))
+
+-- what holds of all lines of all zones still does, where it holds of the line
+
+pub all_lines_with : (p : ZoneLine → Bool) (line : ZoneLine) (zones : List Zone) → IsTrue (list_all (λ (zone : Zone). list_all p zone.lines) zones) → IsTrue (p line) → IsTrue (list_all (λ (zone : Zone). list_all p zone.lines) (with_zone_line line zones))
+all_lines_with p line [] all here = refl
+all_lines_with p line (zone ∷ []) all here =
+    let lines = (and_parts (list_all p zone.lines) true all).0 in
+    and_from (list_all p (zone.lines ++ line ∷ [])) true (list_all-append p zone.lines (line ∷ []) ∙ and_from (list_all p zone.lines) (list_all p (line ∷ [])) lines (and_from (p line) true here refl)) refl
+all_lines_with p line (zone ∷ next ∷ zones) all here =
+    let parts = and_parts (list_all p zone.lines) (list_all (λ (it : Zone). list_all p it.lines) (next ∷ zones)) all in
+    and_from (list_all p zone.lines) (list_all (λ (it : Zone). list_all p it.lines) (with_zone_line line (next ∷ zones))) parts.0 (all_lines_with p line (next ∷ zones) parts.1 here)
 
 -- a zone with one more line, which its last line waited for
 
-continued_pushed : (lines : List EntryLine) (line : EntryLine) → are_continued lines ≡ true → wants_line (map written_entry_line lines) ≡ true → are_continued (lines ++ line ∷ []) ≡ true
-continued_pushed [] line h waits = cc
-continued_pushed (first ∷ []) line h waits =
+continued_pushed : (names : List (List ℕ)) (lines : List ZoneLine) (line : ZoneLine) → are_continued lines ≡ true → wants_line (map (written_line names) lines) ≡ true → are_continued (lines ++ line ∷ []) ≡ true
+continued_pushed names [] line h waits = cc
+continued_pushed names (first ∷ []) line h waits =
     let some : is_some first.until ≡ true = until_some first.until ∙ waits in
     rw some refl
-continued_pushed (first ∷ next ∷ lines) line h waits =
-    let some = (and_parts (is_some first.until) (are_continued (next ∷ lines)) h).0 in
-    let later = (and_parts (is_some first.until) (are_continued (next ∷ lines)) h).1 in
-    rw some (continued_pushed (next ∷ lines) line later waits)
+continued_pushed names (first ∷ next ∷ lines) line h waits =
+    let parts = and_parts (is_some first.until) (are_continued (next ∷ lines)) h in
+    rw parts.0 (continued_pushed names (next ∷ lines) line parts.1 waits)
 
--- what a push leaves, whether it found memory or not
-pub still_continued : {A E : Type 0} (result : Result A E) (old new : List EntryLine) (line : EntryLine) → OnOk result (new ≡ old ++ line ∷ []) → OnErr result (new ≡ old) → IsTrue (are_continued old) → IsTrue (wants_line (map written_entry_line old)) → IsTrue (are_continued new)
-still_continued (Ok done) old new line ok err h waits = rw ok (continued_pushed old line h waits)
-still_continued (Err error) old new line ok err h waits = rw err h
+pub continued_with : (names : List (List ℕ)) (line : ZoneLine) (zones : List Zone) → IsTrue (list_all (λ (zone : Zone). are_continued zone.lines) zones) → IsTrue (wants_line (last_lines (map (written_zone names) zones))) → IsTrue (list_all (λ (zone : Zone). are_continued zone.lines) (with_zone_line line zones))
+continued_with names line [] all waits = refl
+continued_with names line (zone ∷ []) all waits =
+    let lines = (and_parts (are_continued zone.lines) true all).0 in
+    and_from (are_continued (zone.lines ++ line ∷ [])) true (continued_pushed names zone.lines line lines waits) refl
+continued_with names line (zone ∷ next ∷ zones) all waits =
+    let parts = and_parts (are_continued zone.lines) (list_all (λ (it : Zone). are_continued it.lines) (next ∷ zones)) all in
+    and_from (are_continued zone.lines) (list_all (λ (it : Zone). are_continued it.lines) (with_zone_line line (next ∷ zones))) parts.0 (continued_with names line (next ∷ zones) parts.1 waits)
 
-pub still_few_lines : {A E : Type 0} (result : Result A E) (old new : List EntryLine) (line : EntryLine) → OnOk result (new ≡ old ++ line ∷ []) → OnErr result (new ≡ old) → length old < most_lines → length new ≤ most_lines
-still_few_lines (Ok done) old new line ok err room = rw ok (rw (length-append old (line ∷ [])) (omega arith))
-still_few_lines (Err error) old new line ok err room = rw err (omega arith)
-
--- the last zone with one more line
-
-abbrev zone_of : List ℕ → List WrittenLine → WrittenZone
-zone_of name lines = record { name = name; lines = lines }
-
-same_zone : (old kept : List ℕ) (olds news : List EntryLine) (line : EntryLine) → kept ≡ old → news ≡ olds ++ line ∷ [] → zone_of kept (map written_entry_line news) ≡ zone_of old (map written_entry_line olds ++ written_entry_line line ∷ [])
-same_zone old kept olds news line named more =
-    let lines : map written_entry_line news ≡ map written_entry_line olds ++ written_entry_line line ∷ [] = ap (map written_entry_line) more ∙ map-append written_entry_line olds (line ∷ []) in
-    rw (named, lines) refl
-
--- the place of the last
-abbrev pub IsLast : {X : Type 0} → List X → ℕ → Type 0
-IsLast xs place = place + 1 ≡ length xs
-
-pub last_from_place : {X : Type 0} (xs : List X) (place : ℕ) (x : X) → IsLast xs place → x ≡ get_or xs place x → Some x ≡ slice_get xs (length xs - 1)
-last_from_place xs place x last is =
-    let within : place < length xs = omega arith in
-    let same : length xs - 1 ≡ place = omega arith in
-    rw (same, slice_get-get_or xs place x within) (ap Some is)
-
-pub added_line : (zones : List EntryZone) (line : EntryLine) (place : ℕ) (old new : EntryZone) → IsLast zones place → old ≡ get_or zones place old → new.lines ≡ old.lines ++ line ∷ [] → new.name ≡ old.name → map written_entry_zone (set zones place new) ≡ with_line (written_entry_line line) (map written_entry_zone zones)
-added_line [] line place old new last is more named = absurd (omega arith)
-added_line (zone ∷ []) line place old new last is more named =
-    let none : place ≡ 0 = omega arith in
-    let first : old ≡ zone = rw none at is in
-    let same = same_zone old.name new.name old.lines new.lines line named more in
-    rw (none, ← first) (ap (λ (it : WrittenZone). it ∷ []) same)
-added_line (zone ∷ next ∷ zones) line zero old new last is more named = absurd (omega arith)
-added_line (zone ∷ next ∷ zones) line (suc place) old new last is more named =
-    ap (λ (later : List WrittenZone). written_entry_zone zone ∷ later) (added_line (next ∷ zones) line place old new (omega arith) is more named)
-
--- what a clause says of the last zone
-
-pub last_waits : (zones : List EntryZone) (place : ℕ) (zone : EntryZone) → IsLast zones place → zone ≡ get_or zones place zone → IsTrue (wants_line (last_lines (map written_entry_zone zones))) → IsTrue (wants_line (map written_entry_line zone.lines))
-last_waits zones place zone last is h =
-    rw (last_lines_of zones zone (last_from_place zones place zone last is)) at h
-
-pub last_has_room : (zones : List EntryZone) (place : ℕ) (zone : EntryZone) → IsLast zones place → zone ≡ get_or zones place zone → length (last_lines (map written_entry_zone zones)) < most_lines → length zone.lines < most_lines
-last_has_room zones place zone last is h =
-    let lines = last_lines_of zones zone (last_from_place zones place zone last is) in
-    let count : length (last_lines (map written_entry_zone zones)) ≡ length zone.lines = ap length lines ∙ length-map zone.lines written_entry_line in
-    omega arith
+-- there are as many zones
+pub count_with_line : (line : ZoneLine) (zones : List Zone) → length (with_zone_line line zones) ≡ length zones
+count_with_line line [] = refl
+count_with_line line (zone ∷ []) = refl
+count_with_line line (zone ∷ next ∷ zones) = ap suc (count_with_line line (next ∷ zones))

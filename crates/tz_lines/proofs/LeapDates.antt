@@ -1,5 +1,5 @@
 -- The date of the last leap second.
-use Rattle.std.proofs.Common.{◌≡◌, ℕ, ◌-◌, suc, List, [], ◌∷◌, length, Option, Some, ap, refl, arith, slice_get}
+use Rattle.std.proofs.Common.{◌≡◌, ◌-◌, suc, List, [], ◌∷◌, length, Some, ap, arith, slice_get}
 use Rattle.tz_lines.specs.declared.leap_contents.WrittenLeap.{WrittenLeap}
 use Rattle.tz_lines.specs.LeapFaults.{last_date}
 

@@ -1,8 +1,7 @@
 -- What the lines of a leap text give, one after another.
-use Rattle.std.proofs.Common.{◌≡◌, ℕ, ◌+◌, List, [], ◌∷◌, length, map, Option, Some, None, Result, Ok, Err, refl, sym, ap, ◌∙◌}
+use Rattle.std.proofs.Common.{◌≡◌, ℕ, ◌+◌, List, ◌∷◌, length, map, Option, Result, Ok, Err, sym, ap, ◌∙◌}
 use Rattle.std.proofs.lemmas.List.{length-map}
 use Rattle.tz_types.specs.declared.cause.Cause.{Cause}
-use Rattle.tz_types.specs.declared.fault.Fault.{Fault}
 use Rattle.tz_specs.specs.Line.{lines_of}
 use Rattle.tz_specs.specs.LeapLine.{LeapRecord, leap_line_says}
 use Rattle.tz_specs.specs.LeapText.{LeapContents, no_leap_contents, with_leap_record, leap_fault, leap_contents_after, leap_contents_of}

@@ -1,41 +1,39 @@
--- The database that is built of what a text gives is what the text says.
-use Rattle.std.proofs.Common.{◌≡◌, ℕ, nat_lt, IsTrue, List, [], ◌∷◌, length, Ok, refl}
-use Rattle.std.specs.List.{list_all}
-use Rattle.tz_types.specs.declared.zone.Zone.{Zone}
-use Rattle.tz_types.specs.declared.zone_line.ZoneLine.{ZoneLine}
-use Rattle.tz_types.specs.declared.link.Link.{Link}
+-- The database that is built of what a text gives is what the text says, and the faults of what it gives are the text's.
+use Rattle.std.proofs.Common.{◌≡◌, ℕ, inl, inr, List, Ok, refl}
 use Rattle.tz_types.specs.declared.database.Db.{Db}
-use Rattle.tz_specs.specs.Expansion.{first_instant, end_of_time, periods_of}
-use Rattle.tz_specs.specs.Sound.{is_known, leads, is_sound_zone}
 use Rattle.tz_specs.specs.Contents.{Contents, contents_of}
-use Rattle.tz_specs.specs.Reads.{version_of}
-use Rattle.tz_specs.specs.Unbuilt.{ReadsSoFar}
-use Rattle.tz_specs.proofs.AscendingLemmas.{both_hold}
-use Rattle.tz_lines.specs.Built.{IsBuiltOf}
+use Rattle.tz_specs.specs.Reads.{Reads, version_of}
+use Rattle.tz_rules.specs.Built.{IsBuiltOf, MeansWholeFault}
+use Rattle.tz_rules.specs.Parts.{contents_given}
+use Rattle.tz_rules.specs.declared.parts.Parts.{Parts}
+use Rattle.tz_rules.specs.declared.error.BuildError.{BuildError}
+use Rattle.tz_rules.specs.declared.error.BuildError.TheVariants as build_errors
+use Rattle.tz_lines.specs.Gathering.{MeansLineFault}
+use Rattle.tz_lines.specs.Refusal.{error_read, MeansFault}
+use Rattle.tz_lines.specs.declared.error.ReadError.{ReadError}
+use Rattle.tz_lines.specs.declared.error.ReadError.TheVariants as errors
 
--- a sound zone knows the rule sets of its lines
-sound_known : (db : Db) (zones : List Zone) → IsTrue (list_all (is_sound_zone db) zones) → IsTrue (list_all (λ zone. list_all (λ line. is_known db.sets line.rules) zone.lines) zones)
-sound_known db [] h = refl
-sound_known db (zone ∷ zones) h =
-    let both = both_hold (is_sound_zone db zone) (list_all (is_sound_zone db) zones) h in
-    let here = both_hold (list_all (λ (line : ZoneLine). is_known db.sets line.rules) zone.lines) (leads first_instant end_of_time (periods_of db zone)) both.0 in
-    rw here.0 (sound_known db zones both.1)
-
-pub reads_so_far : (text : List ℕ) (contents : Contents) (db : Db) → contents_of text ≡ Ok contents → IsBuiltOf contents (version_of text) db → ReadsSoFar text db
-reads_so_far text contents db given built =
-    let sound = both_hold (list_all (is_sound_zone db) db.zones) (list_all (λ (link : Link). nat_lt link.zone (length db.zones)) db.links) built.sound in
+pub reads : (text : List ℕ) (contents : Contents) (db : Db) → contents_of text ≡ Ok contents → IsBuiltOf contents (version_of text) db → Reads text db
+reads text contents db given built =
     record {
-      reads = record {
-        contents = contents;
-        given = given;
-        no_fault = built.no_fault;
-        version = built.version_is;
-        sets = built.sets;
-        zones = built.zones;
-        links = built.links;
-        places = built.places;
-        known = sound_known db db.zones sound.0;
-      };
-      plain = built.plain;
-      no_links = built.no_links;
+      contents = contents;
+      given = given;
+      no_fault = built.no_fault;
+      version = built.version_is;
+      sets = built.sets;
+      zones = built.zones;
+      links = built.links;
+      places = built.places;
+      known = built.known;
     }
+
+-- a text of which a line has a cause
+pub refused_by_line : (text : List ℕ) (error : ReadError) → MeansLineFault error (contents_of text) → MeansFault error text
+refused_by_line text errors.NoMemory means = means
+refused_by_line text (errors.Fault fault) means = inl means
+
+-- a text of which no line has
+pub refused_whole : (text : List ℕ) (parts : Parts) (error : BuildError) → contents_of text ≡ Ok (contents_given parts) → MeansWholeFault error parts.sets (contents_given parts) → MeansFault (error_read error) text
+refused_whole text parts build_errors.NoMemory given means = means
+refused_whole text parts (build_errors.Fault line cause) given means =
+    inr (record { contents = contents_given parts; given = given; sets = parts.sets; sets_are = refl; least = means })

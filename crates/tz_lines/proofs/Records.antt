@@ -151,17 +151,17 @@ added_before number name rule (set ∷ sets) before h =
     by_name false true here later pushed added = and_from (nat_lt rule.line number && true) (rules_before number set && are_before number sets) (and_from (nat_lt rule.line number) true before refl) h
     by_name false false here later pushed added = and_from (rules_before number set) (are_before number (with_rule name rule sets)) here added
 
--- a zone begins at that line
-abbrev pub BeginsAt : ℕ → Record → Type 0
-BeginsAt number (RuleRecord name rule) = Unit {0}
-BeginsAt number (ZoneRecord name line) = line.line ≡ number
-BeginsAt number (Continuation line) = Unit {0}
-BeginsAt number (LinkRecord link) = Unit {0}
+-- a zone begins at that line, and a link stands there
+abbrev pub StandsAt : ℕ → Record → Type 0
+StandsAt number (RuleRecord name rule) = Unit {0}
+StandsAt number (ZoneRecord name line) = line.line ≡ number
+StandsAt number (Continuation line) = Unit {0}
+StandsAt number (LinkRecord link) = link.line ≡ number
 
--- The record of a line may follow what stands before it. A zone begins at the line, and all rules stand before the next.
+-- The record of a line may follow what stands before it. A zone or a link stands at the line, and all rules stand before the next.
 pub record Follows (contents : Contents) (number : ℕ) (said : Record) : Type 0 where
   pub may : IsTrue (may_follow contents said)
-  pub begins : BeginsAt number said
+  pub stands : StandsAt number said
   pub before : IsTrue (are_before (number + 1) (with_record said contents).sets)
 
 rule_follows : (contents : Contents) (number : ℕ) (name : List ℕ) (rule : Option WrittenRule) (said : Record) → ((it : WrittenRule) → rule ≡ Some it → it.line ≡ number) → option_map (RuleRecord name) rule ≡ Some said → exceeds_rules name contents ≡ false → are_before number contents.sets ≡ true → Follows contents number said
@@ -172,7 +172,7 @@ rule_follows contents number name (Some rule) said at e room h =
     let earlier : nat_lt rule.line (number + 1) ≡ true = grind (arith, nat_tests) in
     subst (Follows contents number) same (record {
       may = rw (room, line) h;
-      begins = tt;
+      stands = tt;
       before = added_before (number + 1) name rule contents.sets earlier (still_before number contents.sets h);
     })
 
@@ -180,13 +180,13 @@ zone_follows : (contents : Contents) (number : ℕ) (name : List ℕ) (line : Op
 zone_follows contents number name None said at e room h = cc
 zone_follows contents number name (Some line) said at e room h =
     let same = same_Some (ZoneRecord name line) said e in
-    subst (Follows contents number) same (record { may = rw room refl; begins = at line refl; before = still_before number contents.sets h })
+    subst (Follows contents number) same (record { may = rw room refl; stands = at line refl; before = still_before number contents.sets h })
 
 continuation_follows : (contents : Contents) (number : ℕ) (line : Option WrittenLine) (said : Record) → option_map Continuation line ≡ Some said → waits contents ≡ true → exceeds_lines contents ≡ false → are_before number contents.sets ≡ true → Follows contents number said
 continuation_follows contents number None said e waiting room h = cc
 continuation_follows contents number (Some line) said e waiting room h =
     let same = same_Some (Continuation line) said e in
-    subst (Follows contents number) same (record { may = rw (waiting, room) refl; begins = tt; before = still_before number contents.sets h })
+    subst (Follows contents number) same (record { may = rw (waiting, room) refl; stands = tt; before = still_before number contents.sets h })
 
 by_kind : (contents : Contents) (number : ℕ) (fields : List (List ℕ)) (kind : Kind) (said : Record) → kind_of_record (waits contents) fields ≡ Some kind → least_cause (record_causes contents kind fields) ≡ None → record_of kind number fields ≡ Some said → are_before number contents.sets ≡ true → Follows contents number said
 by_kind contents number fields RuleLine said named none e h =
@@ -197,7 +197,7 @@ by_kind contents number fields ZoneLine said named none e h =
 by_kind contents number fields LinkLine said named none e h =
     let same = same_Some (LinkRecord (link_of number fields)) said e in
     let room = link_room (exceeds_links contents) fields none in
-    subst (Follows contents number) same (record { may = rw room refl; begins = tt; before = still_before number contents.sets h })
+    subst (Follows contents number) same (record { may = rw room refl; stands = refl; before = still_before number contents.sets h })
 by_kind contents number fields ContinuationLine said named none e h =
     continuation_follows contents number (line_of number fields) said e (waits_for (waits contents) fields named) (well_named false (exceeds_lines contents) fields none).1 h
 

@@ -12,11 +12,15 @@ use Rattle.tz_types.specs.declared.rule.Rule.{Rule}
 use Rattle.tz_types.specs.declared.rule_set.RuleSet.{RuleSet}
 use Rattle.tz_specs.specs.Written.{WrittenRule, WrittenSet, written_rule, written_set, set_names}
 use Rattle.tz_specs.specs.Contents.{is_set_named, with_rule, is_full_set}
-use Rattle.tz_lines.specs.NamePlace.{name_place}
+use Rattle.tz_rules.specs.NamePlace.{name_place}
 use Rattle.tz_lines.specs.Following.{are_before}
-use Rattle.tz_lines.proofs.BuiltLines.{map_insert}
-use Rattle.tz_lines.proofs.NameOrder.{Ascend}
-use Rattle.tz_lines.proofs.NamesFound.{found-find, found-named, missing-find, place_empty, same_name, later_name, earlier_name, stands, ascends_inserted, later_place, ok_later, later_gap, err_later}
+use Rattle.tz_rules.proofs.NameOrder.{Ascend}
+use Rattle.tz_rules.proofs.NamesFound.{found-find, found-named, missing-find, place_empty, same_name, later_name, earlier_name, stands, ascends_inserted, later_place, ok_later, later_gap, err_later}
+
+map_insert : {A B : Type 0} (view : A → B) (xs : List A) (place : ℕ) (x : A) → map view (insert xs place x) ≡ insert (map view xs) place (view x)
+map_insert {A} {B} view xs zero x = refl
+map_insert {A} {B} view [] (suc place) x = refl
+map_insert {A} {B} view (y ∷ xs) (suc place) x = ap (λ (rest : List B). view y ∷ rest) (map_insert view xs place x)
 
 -- the name of a set as it is written
 abbrev pub name_of : WrittenSet → List ℕ

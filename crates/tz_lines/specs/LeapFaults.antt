@@ -1,8 +1,7 @@
 -- The faults of a leap text as a whole, where its leap seconds stand in the order of their dates and lines.
-use Rattle.std.specs.Prelude.{Bool, true, false, List, [], ◌∷◌, ◌++◌, map, filter_map, int_le, ℤ, Option, Some, None}
+use Rattle.std.specs.Prelude.{Bool, false, List, [], ◌∷◌, ◌++◌, map, filter_map, int_le, ℤ, Option, Some, None}
 use Rattle.std.specs.Ordering.{int_eq}
 use Rattle.std.specs.Option.{option_to_list}
-use Rattle.std.specs.List.{last_or}
 use Rattle.tz_types.specs.declared.fault.Fault.{Fault}
 use Rattle.tz_types.specs.declared.cause.Cause.TheVariants as causes
 use Rattle.tz_specs.specs.LeapText.{leap_fault, leap_fault_where}

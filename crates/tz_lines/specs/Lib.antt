@@ -1,14 +1,9 @@
 pub mod LineOutcome
-pub mod NamePlace
-pub mod Continued
+pub mod Names
 pub mod Gathered
 pub mod Following
 pub mod Gathering
-pub mod Built
-pub mod Told
-pub mod FirstLine
-pub mod PlainZone
-pub mod LineOrder
+pub mod LastZone
 pub mod Refusal
 pub mod Locate
 pub mod LeapContents

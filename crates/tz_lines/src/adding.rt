@@ -1,26 +1,31 @@
 //! What the lines of a text have given so far, with one more record.
-ghost use Rattle.std.specs.Prelude.{◌≡◌, IsTrue, OnOk};
-ghost use Rattle.tz_specs.specs.Written.{written_rule, written_link, RuleRecord, ZoneRecord, Continuation, LinkRecord};
+ghost use Rattle.std.specs.Prelude.{◌≡◌, ◌+◌, ◌<◌, ◌≤◌, ◌^◌, length, IsTrue, IfOk, OnOk};
+ghost use Rattle.tz_specs.specs.Written.{written_rule, written_line, RuleRecord, ZoneRecord, Continuation};
 ghost use Rattle.tz_specs.specs.Contents.{no_contents, with_record};
 ghost use Rattle.tz_records.specs.Entry.{written_entry, written_entry_line};
+ghost use Rattle.tz_rules.specs.Continued.{is_named_by};
 ghost use Rattle.tz_lines.specs.Gathered.{contents_gathered};
 ghost use Rattle.tz_lines.specs.Following.{may_follow};
 
 use crate::contents::Gathered;
 use crate::last_zone::{continue_last, zone_of};
+use crate::names::Names;
 use crate::rule_sets::add_rule;
+use crate::zone_line::zone_line;
 use std::alloc::Global;
 use std::mem;
 use tz_records::{Entry, EntryLine};
-use tz_types::{Items, Label, NoMemory, Rule};
+use tz_types::{Items, Label, NoMemory, Rule, ZoneLine};
 
 impl Gathered {
     /// Before any line.
     pub fn new(alloc: Global) -> Self
-        ensures { contents_gathered result ≡ no_contents }
+        ensures contents { contents_gathered result ≡ no_contents }
+        ensures names { length result.names.labels.items ≡ 0 }
     {
         Gathered {
             sets: Items::new(alloc),
+            names: Names::new(alloc),
             zones: Items::new(alloc),
             links: Items::new(alloc),
         }
@@ -28,7 +33,8 @@ impl Gathered {
 
     fn add_rule(&mut self, alloc: Global, name: Label, rule: Rule) -> Result<(), NoMemory>
         requires { IsTrue (may_follow (contents_gathered self.old) (RuleRecord name (written_rule rule))) }
-        ensures { OnOk result (contents_gathered self.new ≡ with_record (RuleRecord name (written_rule rule)) (contents_gathered self.old)) }
+        ensures contents { OnOk result (contents_gathered self.new ≡ with_record (RuleRecord name (written_rule rule)) (contents_gathered self.old)) }
+        ensures names { length self.new.names.labels.items ≡ length self.old.names.labels.items }
     {
         // `Items` lends none of its elements to be changed, so the whole list is taken out and put back.
         let mut sets = mem::replace(&mut self.sets, Items::new(alloc)).into_vec();
@@ -37,17 +43,34 @@ impl Gathered {
         Ok(())
     }
 
-    fn begin_zone(&mut self, alloc: Global, name: Label, line: EntryLine) -> Result<(), NoMemory>
-        requires { IsTrue (may_follow (contents_gathered self.old) (ZoneRecord name (written_entry_line line))) }
-        ensures { OnOk result (contents_gathered self.new ≡ with_record (ZoneRecord name (written_entry_line line)) (contents_gathered self.old)) }
+    /// The line of a zone that an entry says. The name of its rule set is among the names from then on.
+    fn zone_line(&mut self, entry: EntryLine) -> Result<ZoneLine, NoMemory>
+        requires { length self.old.names.labels.items < 2 ^ 32 }
+        ensures contents { contents_gathered self.new ≡ contents_gathered self.old }
+        ensures line { IfOk result (λ it. written_line self.new.names.labels.items it ≡ written_entry_line entry) }
+        ensures named { IfOk result (λ it. IsTrue (is_named_by (length self.new.names.labels.items) it.rules)) }
+        ensures names { length self.new.names.labels.items ≤ length self.old.names.labels.items + 1 }
     {
+        zone_line(&mut self.names, entry)
+    }
+
+    fn begin_zone(&mut self, alloc: Global, name: Label, entry: EntryLine) -> Result<(), NoMemory>
+        requires room { length self.old.names.labels.items < 2 ^ 32 }
+        requires may { IsTrue (may_follow (contents_gathered self.old) (ZoneRecord name (written_entry_line entry))) }
+        ensures contents { OnOk result (contents_gathered self.new ≡ with_record (ZoneRecord name (written_entry_line entry)) (contents_gathered self.old)) }
+        ensures names { length self.new.names.labels.items ≤ length self.old.names.labels.items + 1 }
+    {
+        let line = self.zone_line(entry)?;
         self.zones.push(zone_of(alloc, name, line)?)
     }
 
-    fn continue_zone(&mut self, alloc: Global, line: EntryLine) -> Result<(), NoMemory>
-        requires { IsTrue (may_follow (contents_gathered self.old) (Continuation (written_entry_line line))) }
-        ensures { OnOk result (contents_gathered self.new ≡ with_record (Continuation (written_entry_line line)) (contents_gathered self.old)) }
+    fn continue_zone(&mut self, alloc: Global, entry: EntryLine) -> Result<(), NoMemory>
+        requires room { length self.old.names.labels.items < 2 ^ 32 }
+        requires may { IsTrue (may_follow (contents_gathered self.old) (Continuation (written_entry_line entry))) }
+        ensures contents { OnOk result (contents_gathered self.new ≡ with_record (Continuation (written_entry_line entry)) (contents_gathered self.old)) }
+        ensures names { length self.new.names.labels.items ≤ length self.old.names.labels.items + 1 }
     {
+        let line = self.zone_line(entry)?;
         let mut zones = mem::replace(&mut self.zones, Items::new(alloc)).into_vec();
         continue_last(&mut zones, line)?;
         self.zones = Items::from_vec(zones);
@@ -56,8 +79,10 @@ impl Gathered {
 
     /// Adds what a line says. After `NoMemory` the text can't be read on.
     pub fn add(&mut self, alloc: Global, entry: Entry) -> Result<(), NoMemory>
-        requires { IsTrue (may_follow (contents_gathered self.old) (written_entry entry)) }
-        ensures { OnOk result (contents_gathered self.new ≡ with_record (written_entry entry) (contents_gathered self.old)) }
+        requires room { length self.old.names.labels.items < 2 ^ 32 }
+        requires may { IsTrue (may_follow (contents_gathered self.old) (written_entry entry)) }
+        ensures contents { OnOk result (contents_gathered self.new ≡ with_record (written_entry entry) (contents_gathered self.old)) }
+        ensures names { length self.new.names.labels.items ≤ length self.old.names.labels.items + 1 }
     {
         match entry {
             Entry::Rule { name, rule } => self.add_rule(alloc, name, rule),

@@ -1,29 +1,24 @@
-ghost use Rattle.std.specs.Prelude.{◌≡◌, ◌≤◌, ◌<◌, [], List, length, map, find, position, IsTrue, IfSome};
+ghost use Rattle.std.specs.Prelude.{◌≤◌, length, map, IsTrue};
+ghost use Rattle.std.specs.List.{list_all};
 ghost use Rattle.tz_types.specs.Order.{ascends, name_before};
-ghost use Rattle.tz_types.specs.Limit.{most_sets, most_zones, most_lines, most_links};
-ghost use Rattle.tz_lines.specs.Continued.{are_continued};
+ghost use Rattle.tz_types.specs.Limit.{most_sets, most_zones, most_links};
+ghost use Rattle.tz_rules.specs.Continued.{are_continued, is_named_by};
 
-use tz_records::EntryLine;
-use tz_types::{Items, Label, Link, RuleSet};
-
-/// A zone, whose rule sets aren't looked up yet.
-#[derive(Debug, Drop)]
-pub struct EntryZone {
-    pub name: Label,
-    pub lines: Items<EntryLine>,
-    pub ghost continued: { IsTrue (are_continued lines) },
-    pub ghost few_lines: { length lines ≤ most_lines },
-}
+use crate::names::Names;
+use tz_types::{Items, Link, RuleSet, Zone};
 
 /// What the lines of a text have given so far: rule sets in the order of their names, and zones and links in the order
-/// of their lines.
+/// of their lines. A line of a zone that follows a rule set gives the place of the set's name among the names.
 #[derive(Debug, Drop)]
 pub struct Gathered {
     pub sets: Items<RuleSet>,
-    pub zones: Items<EntryZone>,
+    pub names: Names,
+    pub zones: Items<Zone>,
     pub links: Items<Link>,
     pub ghost sets_ascend: { IsTrue (ascends name_before (map (λ set. set.name) sets)) },
     pub ghost few_sets: { length sets ≤ most_sets },
     pub ghost few_zones: { length zones ≤ most_zones },
     pub ghost few_links: { length links ≤ most_links },
+    pub ghost continued: { IsTrue (list_all (λ zone. are_continued zone.lines) zones) },
+    pub ghost named: { IsTrue (list_all (λ zone. list_all (λ line. is_named_by (length names.labels.items) line.rules) zone.lines) zones) },
 }

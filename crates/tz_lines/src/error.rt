@@ -1,8 +1,10 @@
 ghost use Rattle.std.specs.Prelude.{◌≡◌};
 ghost use Rattle.tz_lines.specs.declared.error.ReadError.TheVariants as errors;
+ghost use Rattle.tz_lines.specs.Refusal.{error_read};
 
 use std::error::Error;
 use std::fmt;
+use tz_rules::BuildError;
 use tz_types::{Fault, NoMemory};
 
 /// Why a text wasn't read.
@@ -37,5 +39,16 @@ impl From<NoMemory> for ReadError {
 
     fn from(_: NoMemory) -> Self {
         ReadError::NoMemory
+    }
+}
+
+impl From<BuildError> for ReadError {
+    ghost from_gives = { λ error e. e ≡ error_read error };
+
+    fn from(error: BuildError) -> Self {
+        match error {
+            BuildError::NoMemory => ReadError::NoMemory,
+            BuildError::Fault { line, cause } => ReadError::Fault(Fault { line, cause }),
+        }
     }
 }

@@ -1,4 +1,4 @@
-ghost use Rattle.std.specs.Prelude.{◌≡◌, ◌+◌, ◌≤◌, ◌∷◌, ℕ, List, Ok, IfOk, IfErr, OnOk, length, IsTrue};
+ghost use Rattle.std.specs.Prelude.{◌≡◌, ◌+◌, ◌<◌, ◌≤◌, ◌∷◌, ℕ, List, Ok, IfOk, IfErr, OnOk, length, IsTrue};
 ghost use Rattle.tz_specs.specs.Contents.{contents_after, contents_of};
 ghost use Rattle.tz_lines.specs.Gathered.{contents_gathered};
 ghost use Rattle.tz_lines.specs.Following.{are_before};
@@ -20,11 +20,13 @@ fn take_line(
     line: &[u8],
     number: u32,
 ) -> Result<(), ReadError>
-    requires { IsTrue (are_before number (contents_gathered gathered.old).sets) }
+    requires before { IsTrue (are_before number (contents_gathered gathered.old).sets) }
+    requires names { length gathered.old.names.labels.items < number }
     ensures ok { OnOk result ((lines : List (List ℕ)) →
         contents_after (contents_gathered gathered.old) number (line.now ∷ lines)
         ≡ contents_after (contents_gathered gathered.new) (number + 1) lines) }
     ensures before { OnOk result (IsTrue (are_before (number + 1) (contents_gathered gathered.new).sets)) }
+    ensures names { length gathered.new.names.labels.items < number + 1 }
     ensures err { IfErr result (λ e. (lines : List (List ℕ)) →
         MeansLineFault e (contents_after (contents_gathered gathered.old) number (line.now ∷ lines))) }
 {

@@ -1,45 +1,27 @@
 //! The zone that was begun last.
-ghost use Rattle.std.specs.Prelude.{◌≡◌, ◌∷◌, ◌++◌, [], ◌<◌, length, map, IsTrue, IfOk, OnOk};
-ghost use Rattle.tz_types.specs.Limit.{most_lines};
-ghost use Rattle.tz_specs.specs.Contents.{with_line, last_lines, wants_line};
-ghost use Rattle.tz_records.specs.Entry.{written_entry_line};
-ghost use Rattle.tz_lines.specs.Gathered.{written_entry_zone};
-ghost use Rattle.tz_lines.specs.declared.contents.EntryZone.{EntryZone as DeclaredZone};
+ghost use Rattle.std.specs.Prelude.{◌≡◌, ◌∷◌, [], IfOk, OnOk};
+ghost use Rattle.tz_types.specs.declared.zone.Zone.{Zone as DeclaredZone};
+ghost use Rattle.tz_lines.specs.LastZone.{with_zone_line};
 
-use crate::contents::EntryZone;
 use std::alloc::Global;
-use tz_records::EntryLine;
-use tz_types::{Items, Label, NoMemory};
+use tz_types::{Items, Label, NoMemory, Zone, ZoneLine};
 
 /// A zone of one line.
-pub fn zone_of(alloc: Global, name: Label, line: EntryLine) -> Result<EntryZone, NoMemory>
+pub fn zone_of(alloc: Global, name: Label, line: ZoneLine) -> Result<Zone, NoMemory>
     ensures name { IfOk result (λ (zone : DeclaredZone). zone.name ≡ name) }
     ensures lines { IfOk result (λ (zone : DeclaredZone). zone.lines ≡ line ∷ []) }
 {
     let mut lines = Items::new(alloc);
     lines.push(line)?;
-    Ok(EntryZone { name, lines })
+    Ok(Zone { name, lines })
 }
 
-/// Adds the line that the zone waits for.
-fn push_line(zone: &mut EntryZone, line: EntryLine) -> Result<(), NoMemory>
-    requires waits { IsTrue (wants_line (map written_entry_line zone.old.lines)) }
-    requires room { length zone.old.lines < most_lines }
-    ensures lines { OnOk result (zone.new.lines ≡ zone.old.lines ++ line ∷ []) }
-    ensures name { zone.new.name ≡ zone.old.name }
-{
-    zone.lines.push(line)
-}
-
-/// Adds the line that the last zone waits for.
-pub fn continue_last(zones: &mut Vec<EntryZone>, line: EntryLine) -> Result<(), NoMemory>
-    requires waits { IsTrue (wants_line (last_lines (map written_entry_zone zones.old.items))) }
-    requires room { length (last_lines (map written_entry_zone zones.old.items)) < most_lines }
-    ensures lines { OnOk result (map written_entry_zone zones.new.items ≡ with_line (written_entry_line line) (map written_entry_zone zones.old.items)) }
-    ensures count { length zones.new.items ≡ length zones.old.items }
+/// Adds a line to the last zone.
+pub fn continue_last(zones: &mut Vec<Zone>, line: ZoneLine) -> Result<(), NoMemory>
+    ensures { OnOk result (zones.new.items ≡ with_zone_line line zones.old.items) }
 {
     match zones.last_mut() {
-        Some(zone) => push_line(zone, line),
+        Some(zone) => zone.lines.push(line),
         None => Ok(()),
     }
 }

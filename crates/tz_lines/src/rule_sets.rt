@@ -8,7 +8,7 @@ ghost use Rattle.tz_types.specs.declared.rule.Rule.{Rule as DeclaredRule};
 ghost use Rattle.tz_types.specs.declared.rule_set.RuleSet.{RuleSet as DeclaredSet};
 ghost use Rattle.tz_specs.specs.Written.{written_rule, written_set, set_names};
 ghost use Rattle.tz_specs.specs.Contents.{with_rule, is_set_named, is_full_set};
-ghost use Rattle.tz_lines.specs.NamePlace.{name_place};
+ghost use Rattle.tz_rules.specs.NamePlace.{name_place};
 ghost use Rattle.tz_lines.specs.Following.{are_before};
 
 use std::alloc::Global;

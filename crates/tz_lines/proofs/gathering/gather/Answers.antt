@@ -10,8 +10,9 @@ use Rattle.tz_lines.proofs.gathering.gather.Goals as goal
 pub loop-rest-init : goal.loop-rest-init
 loop-rest-init c =
     record {
-      same = from_none (contents_gathered c.new-gathered.result) c.args.text.now c.new-gathered.ensures;
-      before = ap (λ (it : Contents). are_before 1 it.sets) c.new-gathered.ensures;
+      same = from_none (contents_gathered c.new-gathered.result) c.args.text.now c.new-gathered.ensures.contents;
+      before = ap (λ (it : Contents). are_before 1 it.sets) c.new-gathered.ensures.contents;
+      names = rw c.new-gathered.ensures.names (omega arith);
       within = omega arith;
     }
 

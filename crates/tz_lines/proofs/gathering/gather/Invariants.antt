@@ -1,4 +1,4 @@
-use Rattle.std.proofs.Common.{◌≡◌, ◌+◌, ◌≤◌, length, IsTrue}
+use Rattle.std.proofs.Common.{◌≡◌, ◌+◌, ◌<◌, ◌≤◌, length, IsTrue}
 use Rattle.tz_specs.specs.Line.{lines_of}
 use Rattle.tz_specs.specs.Contents.{contents_after, contents_of}
 use Rattle.tz_lines.specs.Gathered.{contents_gathered}
@@ -11,6 +11,7 @@ invariant-loop-rest l =
     record {
       same : contents_after (contents_gathered l.gathered) l.number (lines_of l.rest) ≡ contents_of l.text;
       before : IsTrue (are_before l.number (contents_gathered l.gathered).sets);
+      names : length l.gathered.names.labels.items < l.number;
       within : l.number + length l.rest ≤ 1 + length l.text;
     }
 

@@ -1,4 +1,4 @@
-use Rattle.std.proofs.Common.{◌≡◌, ap, ◌∙◌, sym, Some, ℤ, FitsSigned, rules, arith}
+use Rattle.std.proofs.Common.{sym, FitsSigned, rules}
 use Rattle.std.specs.Int.{w64}
 use Rattle.std.proofs.lemmas.Int.{to_z-of_z}
 use Rattle.tz_lines.proofs.LeapDates.{last_is}

@@ -1,15 +1,15 @@
-use Rattle.std.proofs.Common.{subst}
-use Rattle.tz_lines.specs.Gathered.{contents_gathered}
-use Rattle.tz_lines.specs.Built.{IsBuiltOf}
-use Rattle.tz_lines.proofs.ZoneBegins.{text_in_order}
-use Rattle.tz_lines.proofs.ReadTexts.{reads_so_far}
+use Rattle.std.proofs.Common.{◌≡◌, Ok, sym, ap, ◌∙◌}
+use Rattle.tz_specs.specs.Contents.{contents_of}
+use Rattle.tz_rules.specs.Parts.{contents_given}
+use Rattle.tz_lines.proofs.LineOrders.{zones_in_order, links_in_order}
 use Rattle.tz_lines.proofs.reading.read_zones.Goals as goal
 
-pub build-requires : goal.build-requires
-build-requires c =
-    text_in_order c.args.text.now (contents_gathered c.in-Ok.gathered) c.in-Ok.ensures.ok
+pub build-requires-clause-zones : goal.build-requires-clause-zones
+build-requires-clause-zones c =
+    let given : contents_of c.args.text.now ≡ Ok (contents_given c.into_parts.result) = c.in_ok-gathered.ensures.ok ∙ ap Ok (sym c.into_parts.ensures.contents) in
+    zones_in_order c.args.text.now (contents_given c.into_parts.result) given
 
-pub returns-in-Ok-build-clause-ok : goal.returns-in-Ok-build-clause-ok
-returns-in-Ok-build-clause-ok c =
-    reads_so_far c.args.text.now (contents_gathered c.in-Ok.gathered) c.in-Ok-build.db c.in-Ok.ensures.ok
-    (subst (λ version. IsBuiltOf (contents_gathered c.in-Ok.gathered) version c.in-Ok-build.db) c.version.ensures c.in-Ok-build.ensures.ok)
+pub build-requires-clause-links : goal.build-requires-clause-links
+build-requires-clause-links c =
+    let given : contents_of c.args.text.now ≡ Ok (contents_given c.into_parts.result) = c.in_ok-gathered.ensures.ok ∙ ap Ok (sym c.into_parts.ensures.contents) in
+    links_in_order c.args.text.now (contents_given c.into_parts.result) given

@@ -1,7 +1,7 @@
 use Rattle.std.proofs.Common.{◌≡◌, ◌<◌, ◌≤◌, length, Ok, Err, sym}
 use Rattle.std.proofs.lemmas.Result.{on_ok_weaker}
 use Rattle.tz_specs.specs.Written.{set_names}
-use Rattle.tz_lines.specs.NamePlace.{name_place}
+use Rattle.tz_rules.specs.NamePlace.{name_place}
 use Rattle.tz_lines.proofs.RuleSets.{added_known, names_kept, added_new, new_ascends, place_before, room_in_set, room_for_set}
 use Rattle.tz_lines.proofs.rule_sets.add_rule.Goals as goal
 

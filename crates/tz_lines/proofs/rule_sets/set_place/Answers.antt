@@ -1,7 +1,7 @@
 use Rattle.std.proofs.Common.{rules, of_calls}
 use Rattle.std.proofs.lemmas.Fn.{always_returns_same}
 use Rattle.tz_types.specs.declared.rule_set.RuleSet.{RuleSet}
-use Rattle.tz_lines.proofs.NameOrder.{searched, compared}
+use Rattle.tz_rules.proofs.NameOrder.{searched, compared}
 use Rattle.tz_lines.proofs.rule_sets.set_place.Goals as goal
 
 pub returns-clause-place : goal.returns-clause-place

@@ -1,7 +1,7 @@
 use Rattle.std.proofs.Common.{◌≡◌, ◌<◌, nat_le, length, get_or, Ok, Err, sym, ap, ◌∙◌}
 use Rattle.tz_types.specs.declared.rule_set.RuleSet.{RuleSet}
 use Rattle.tz_specs.specs.Written.{set_names}
-use Rattle.tz_lines.specs.NamePlace.{name_place}
+use Rattle.tz_rules.specs.NamePlace.{name_place}
 use Rattle.tz_lines.proofs.RuleSets.{full_known, full_new}
 use Rattle.tz_lines.proofs.contents.Gathered.exceeds_rules.Goals as goal
 

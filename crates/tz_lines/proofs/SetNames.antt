@@ -1,0 +1,182 @@
+-- Names of rule sets, with one more, and lines that give their places.
+use Rattle.std.proofs.Common.{◌≡◌, ℕ, zero, suc, ◌+◌, ◌<◌, ◌≤◌, Bool, true, false, not, ◌||◌, nat_lt, eqb, cond, if◌then◌else◌, IsTrue, List, [], ◌∷◌, ◌++◌, length, map, get_or, Option, Some, None, Result, Ok, Err, IfOk, IsOk, is_ok, refl, sym, ap, ◌∙◌, arith}
+use Rattle.std.proofs.lemmas.Bool.{and_parts, and_from}
+use Rattle.std.proofs.lemmas.Bool.Decides.{nat_tests}
+use Rattle.std.specs.Ordering.{nat_cmp, is_eq}
+use Rattle.std.specs.Cmp.Lexicographic.{slice_cmp}
+use Rattle.std.specs.Result.{OnOk}
+use Rattle.std.specs.List.{list_all, list_any, slice_get, position, position_or_len}
+use Rattle.std.proofs.lemmas.Option.{slice_get-get_or}
+use Rattle.std.proofs.lemmas.List.{length-append}
+use Rattle.std.proofs.lemmas.List.Folds.{position_or_len_push}
+use Rattle.std.proofs.lemmas.List.Quantifiers.{position-Some}
+use Rattle.std.proofs.lemmas.Slice.Eq.{bytes_eq-Decides}
+use Rattle.tz_types.specs.declared.zone_line.LineRules.{LineRules}
+use Rattle.tz_types.specs.declared.zone_line.LineRules.TheVariants as rules
+use Rattle.tz_types.specs.declared.zone_line.ZoneLine.{ZoneLine}
+use Rattle.tz_types.specs.declared.zone.Zone.{Zone}
+use Rattle.tz_specs.specs.Value.{is_exactly}
+use Rattle.tz_specs.specs.Written.{written_rules, written_line, written_zone}
+use Rattle.tz_rules.specs.Continued.{is_named_by}
+use Rattle.tz_rules.proofs.FirstLines.{same_name}
+use Rattle.tz_lines.specs.Names.{with_name, AreBegun}
+
+-- the place of a name, when one more came
+
+next_within : (here : Bool) (place count : ℕ) → place ≤ count → cond here (1 + place) 0 ≤ suc count
+next_within true place count within = omega arith
+next_within false place count within = omega arith
+
+within_all : {X : Type 0} (p : X → Bool) (xs : List X) → position_or_len p xs ≤ length xs
+within_all p [] = omega arith
+within_all p (x ∷ xs) = next_within (not (p x)) (position_or_len p xs) (length xs) (within_all p xs)
+
+by_place : (place count : ℕ) (here : Bool) → place ≤ count → cond (nat_lt (cond (eqb place count) (count + cond here 0 1) place) (count + 1)) (Some (cond (eqb place count) (count + cond here 0 1) place)) None ≡ cond (nat_lt place count) (Some place) (cond here (Some count) None)
+by_place place count true within = grind (arith, nat_tests)
+by_place place count false within = grind (arith, nat_tests)
+
+pushed : {X : Type 0} (p : X → Bool) (xs : List X) (x : X) → position p (xs ++ x ∷ []) ≡ cond (nat_lt (position_or_len p xs) (length xs)) (Some (position_or_len p xs)) (cond (p x) (Some (length xs)) None)
+pushed p xs x =
+    rw (position_or_len_push p xs x, length-append xs (x ∷ [])) (by_place (position_or_len p xs) (length xs) (p x) (within_all p xs))
+
+-- whether the place is that of one of them
+abbrev placed : ℕ → ℕ → Option ℕ
+placed place count = cond (nat_lt place count) (Some place) None
+
+last_placed : (place count : ℕ) → placed place count ≡ None → cond (nat_lt place count) (Some place) (Some count) ≡ Some count
+last_placed place count none = by_test (nat_lt place count) none
+  where
+    by_test : (within : Bool) → cond within (Some place) None ≡ None → cond within (Some place) (Some count) ≡ Some count
+    by_test true e = cc
+    by_test false e = refl
+
+by_name : (places : List ℕ → Option ℕ) (labels : List (List ℕ)) (name other : List ℕ) (same : Bool) → is_exactly name other ≡ same → places name ≡ None → ((it : List ℕ) → places it ≡ position (λ label. is_exactly label it) labels) → cond same (Some (length labels)) (places other) ≡ position (λ label. is_exactly label other) (labels ++ name ∷ [])
+by_name places labels name other true e none at =
+    let equal : name ≡ other = (bytes_eq-Decides name other).0 e in
+    let missing : position (λ label. is_exactly label other) labels ≡ None = sym (at other) ∙ ap places (sym equal) ∙ none in
+    rw (pushed (λ label. is_exactly label other) labels name, e) (sym (last_placed (position_or_len (λ label. is_exactly label other) labels) (length labels) missing))
+by_name places labels name other false e none at =
+    rw (pushed (λ label. is_exactly label other) labels name, e) (at other)
+
+-- the index with the place of a new name
+pub indexed : (places : List ℕ → Option ℕ) (labels : List (List ℕ)) (name other : List ℕ) (new : Option ℕ) → new ≡ cond (is_eq (slice_cmp nat_cmp name other)) (Some (length labels)) (places other) → places name ≡ None → ((it : List ℕ) → places it ≡ position (λ label. is_exactly label it) labels) → new ≡ position (λ label. is_exactly label other) (labels ++ name ∷ [])
+indexed places labels name other new e none at =
+    e ∙ ap (λ same. cond same (Some (length labels)) (places other)) (same_name name other) ∙ by_name places labels name other (is_exactly name other) refl none at
+
+-- a name that is there, and one that isn't
+
+there : (labels : List (List ℕ)) (place : ℕ) (name : List ℕ) → slice_get labels place ≡ Some name → list_any (λ label. is_exactly label name) labels ≡ true
+there [] place name e = cc
+there (label ∷ labels) zero name e =
+    let same : is_exactly label name ≡ true = (bytes_eq-Decides label name).1 (cc e) in
+    rw same refl
+there (label ∷ labels) (suc place) name e = or_later (is_exactly label name) (there labels place name e)
+  where
+    or_later : (here : Bool) → list_any (λ label. is_exactly label name) labels ≡ true → (here || list_any (λ label. is_exactly label name) labels) ≡ true
+    or_later true later = refl
+    or_later false later = later
+
+pub known_kept : (labels : List (List ℕ)) (place : ℕ) (name : List ℕ) → slice_get labels place ≡ Some name → labels ≡ with_name name labels
+known_kept labels place name e = rw (there labels place name e) refl
+
+pub found_there : (labels : List (List ℕ)) (place : ℕ) (name : List ℕ) → position (λ label. is_exactly label name) labels ≡ Some place → slice_get labels place ≡ Some name
+found_there labels place name e =
+    let at = position-Some (λ label. is_exactly label name) labels place [] e in
+    slice_get-get_or labels place [] at.0 ∙ ap Some ((bytes_eq-Decides (get_or labels place []) name).0 at.1)
+
+later : (place count : ℕ) → placed (1 + place) (suc count) ≡ None → placed place count ≡ None
+later place count e =
+    let same : nat_lt (1 + place) (suc count) ≡ nat_lt place count = grind (arith, nat_tests) in
+    by_test (nat_lt place count) (ap (λ within. cond within (Some (1 + place)) None) (sym same) ∙ e)
+  where
+    by_test : (within : Bool) → cond within (Some (1 + place)) None ≡ None → cond within (Some place) None ≡ None
+    by_test true e = cc
+    by_test false e = refl
+
+none_or_some : (place : ℕ) → Some place ≡ None → ⊥
+none_or_some place e = cc
+
+not_there : (labels : List (List ℕ)) (name : List ℕ) → position (λ label. is_exactly label name) labels ≡ None → list_any (λ label. is_exactly label name) labels ≡ false
+not_there [] name e = refl
+not_there (label ∷ labels) name e = by_test (is_exactly label name) e (not_there labels name)
+  where
+    by_test : (here : Bool) → placed (cond (not here) (1 + position_or_len (λ it. is_exactly it name) labels) 0) (suc (length labels)) ≡ None → (position (λ it. is_exactly it name) labels ≡ None → list_any (λ it. is_exactly it name) labels ≡ false) → (here || list_any (λ it. is_exactly it name) labels) ≡ false
+    by_test true e next =
+        let some : nat_lt 0 (suc (length labels)) ≡ true = grind (arith, nat_tests) in
+        absurd (none_or_some 0 (rw some at e))
+    by_test false e next = next (later (position_or_len (λ it. is_exactly it name) labels) (length labels) e)
+
+pub new_pushed : (labels : List (List ℕ)) (name : List ℕ) → position (λ label. is_exactly label name) labels ≡ None → labels ++ name ∷ [] ≡ with_name name labels
+new_pushed labels name e = rw (not_there labels name e) refl
+
+-- the place of the last
+pub last_there : (labels : List (List ℕ)) (name : List ℕ) → slice_get (labels ++ name ∷ []) (length labels) ≡ Some name
+last_there [] name = refl
+last_there (label ∷ labels) name = last_there labels name
+
+-- the place of a name that was added
+pub added_place : {E : Type 0} (told : Result ℕ E) (labels others : List (List ℕ)) (name : List ℕ) → IfOk told (λ place. place ≡ length labels) → OnOk told (others ≡ labels ++ name ∷ []) → IfOk told (λ place. slice_get others place ≡ Some name)
+added_place (Ok place) labels others name last more = rw (last, more) (last_there labels name)
+added_place (Err error) labels others name last more = tt
+
+-- what a push leaves that finds room
+pub pushed_items : {X A E : Type 0} (told : Result A E) (olds news : List X) (x : X) → news ≡ (if is_ok told then olds ++ x ∷ [] else olds) → IsOk told → news ≡ olds ++ x ∷ []
+pushed_items (Ok done) olds news x e ok = e
+pushed_items (Err error) olds news x e ok = cc
+
+-- a name at a place is still there, when more come
+
+still_there : {X : Type 0} (xs more : List X) (place : ℕ) → place < length xs → slice_get (xs ++ more) place ≡ slice_get xs place
+still_there [] more place within = absurd (omega arith)
+still_there (x ∷ xs) more zero within = refl
+still_there (x ∷ xs) more (suc place) within = still_there xs more place (omega arith)
+
+below : (place count : ℕ) → IsTrue (nat_lt place count) → place < count
+below place count h = grind (arith, nat_tests)
+
+rules_still : (names more : List (List ℕ)) (given : LineRules) → IsTrue (is_named_by (length names) given) → written_rules (names ++ more) given ≡ written_rules names given
+rules_still names more rules.Plain named = refl
+rules_still names more (rules.Fixed save daylight) named = refl
+rules_still names more (rules.Set place) named =
+    rw (still_there names more place (below place (length names) named)) refl
+
+-- so lines and zones are written as before
+
+lines_still : (names more : List (List ℕ)) (lines : List ZoneLine) → IsTrue (list_all (λ (line : ZoneLine). is_named_by (length names) line.rules) lines) → map (written_line (names ++ more)) lines ≡ map (written_line names) lines
+lines_still names more [] named = refl
+lines_still names more (line ∷ lines) named =
+    let parts = and_parts (is_named_by (length names) line.rules) (list_all (λ (it : ZoneLine). is_named_by (length names) it.rules) lines) named in
+    rw (rules_still names more line.rules parts.0, lines_still names more lines parts.1) refl
+
+zones_still : (names more : List (List ℕ)) (zones : List Zone) → IsTrue (list_all (λ (zone : Zone). list_all (λ (line : ZoneLine). is_named_by (length names) line.rules) zone.lines) zones) → map (written_zone (names ++ more)) zones ≡ map (written_zone names) zones
+zones_still names more [] named = refl
+zones_still names more (zone ∷ zones) named =
+    let parts = and_parts (list_all (λ (line : ZoneLine). is_named_by (length names) line.rules) zone.lines) (list_all (λ (it : Zone). list_all (λ (line : ZoneLine). is_named_by (length names) line.rules) it.lines) zones) named in
+    rw (lines_still names more zone.lines parts.0, zones_still names more zones parts.1) refl
+
+pub zones_with_names : (names others : List (List ℕ)) (zones : List Zone) → AreBegun names others → IsTrue (list_all (λ (zone : Zone). list_all (λ (line : ZoneLine). is_named_by (length names) line.rules) zone.lines) zones) → map (written_zone others) zones ≡ map (written_zone names) zones
+zones_with_names names others zones begun named = rw begun.1 (zones_still names begun.0 zones named)
+
+-- and give places of names
+
+rules_below : (few many : ℕ) (given : LineRules) → few ≤ many → IsTrue (is_named_by few given) → IsTrue (is_named_by many given)
+rules_below few many rules.Plain more named = refl
+rules_below few many (rules.Fixed save daylight) more named = refl
+rules_below few many (rules.Set place) more named = grind (arith, nat_tests)
+
+lines_below : (few many : ℕ) (lines : List ZoneLine) → few ≤ many → IsTrue (list_all (λ (line : ZoneLine). is_named_by few line.rules) lines) → IsTrue (list_all (λ (line : ZoneLine). is_named_by many line.rules) lines)
+lines_below few many [] more named = refl
+lines_below few many (line ∷ lines) more named =
+    let parts = and_parts (is_named_by few line.rules) (list_all (λ (it : ZoneLine). is_named_by few it.rules) lines) named in
+    and_from (is_named_by many line.rules) (list_all (λ (it : ZoneLine). is_named_by many it.rules) lines) (rules_below few many line.rules more parts.0) (lines_below few many lines more parts.1)
+
+zones_below : (few many : ℕ) (zones : List Zone) → few ≤ many → IsTrue (list_all (λ (zone : Zone). list_all (λ (line : ZoneLine). is_named_by few line.rules) zone.lines) zones) → IsTrue (list_all (λ (zone : Zone). list_all (λ (line : ZoneLine). is_named_by many line.rules) zone.lines) zones)
+zones_below few many [] more named = refl
+zones_below few many (zone ∷ zones) more named =
+    let parts = and_parts (list_all (λ (line : ZoneLine). is_named_by few line.rules) zone.lines) (list_all (λ (it : Zone). list_all (λ (line : ZoneLine). is_named_by few line.rules) it.lines) zones) named in
+    and_from (list_all (λ (line : ZoneLine). is_named_by many line.rules) zone.lines) (list_all (λ (it : Zone). list_all (λ (line : ZoneLine). is_named_by many line.rules) it.lines) zones) (lines_below few many zone.lines more parts.0) (zones_below few many zones more parts.1)
+
+pub named_with_names : (names others : List (List ℕ)) (zones : List Zone) → AreBegun names others → IsTrue (list_all (λ (zone : Zone). list_all (λ (line : ZoneLine). is_named_by (length names) line.rules) zone.lines) zones) → IsTrue (list_all (λ (zone : Zone). list_all (λ (line : ZoneLine). is_named_by (length others) line.rules) zone.lines) zones)
+named_with_names names others zones begun named =
+    let count : length others ≡ length names + length begun.0 = ap length begun.1 ∙ length-append names begun.0 in
+    zones_below (length names) (length others) zones (omega arith) named

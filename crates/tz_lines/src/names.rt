@@ -1,0 +1,100 @@
+//! Names of rule sets that lines of zones give.
+ghost use Rattle.std.specs.Prelude.{◌≡◌, ℕ, ◌+◌, ◌<◌, ◌≤◌, ◌^◌, [], ◌∷◌, ◌++◌, List, Some, None, length, position, slice_get, IsTrue, IfOk, OnOk, OnErr};
+ghost use Rattle.std.specs.Ordering.{nat_cmp};
+ghost use Rattle.std.specs.Cmp.Lexicographic.{slice_cmp};
+ghost use Rattle.std.specs.BTreeMap.{get};
+ghost use Rattle.tz_specs.specs.Value.{is_exactly};
+ghost use Rattle.tz_lines.specs.Names.{with_name, AreBegun};
+
+use std::alloc::Global;
+use std::collections::BTreeMap;
+use tz_types::{Items, Label, NoMemory};
+
+/// Names, each once, in the order in which they came.
+#[derive(Debug, Drop)]
+pub struct Names {
+    labels: Vec<Label>,
+    /// The place of each name among them.
+    places: BTreeMap<Label, u32>,
+    /// The place of the name that came last: a line of a zone mostly gives the name that the line before it gave.
+    last: u32,
+    ghost placed: { (name : List ℕ) → get (slice_cmp nat_cmp) places name ≡ position (λ label. is_exactly label name) labels.items },
+}
+
+impl Names {
+    /// Before any name.
+    pub fn new(alloc: Global) -> Self
+        ensures { result.labels.items ≡ [] }
+    {
+        Names {
+            labels: Vec::new(alloc),
+            places: BTreeMap::new(alloc),
+            last: 0,
+        }
+    }
+
+    /// Whether the name that came last is this one.
+    fn came_last(&self, name: &Label) -> bool
+        ensures { IsTrue result → slice_get self.now.labels.items self.now.last ≡ Some name.now }
+    {
+        match self.labels.get(self.last as usize) {
+            Some(label) => label == name,
+            None => false,
+        }
+    }
+
+    /// Adds a name that isn't there, and says its place.
+    fn add(&mut self, name: Label) -> Result<u32, NoMemory>
+        requires room { length self.old.labels.items < 2 ^ 32 }
+        requires missing { get (slice_cmp nat_cmp) self.old.places name ≡ None }
+        ensures place { IfOk result (λ place. place ≡ length self.old.labels.items) }
+        ensures ok { OnOk result (self.new.labels.items ≡ self.old.labels.items ++ name ∷ []) }
+        ensures err { OnErr result (self.new.labels.items ≡ self.old.labels.items) }
+    {
+        let place = self.labels.len() as u32;
+        self.labels.reserve(1)?;
+        self.places.insert(name.copied(), place)?;
+        match self.labels.push(name) {
+            Ok(()) => Ok(place),
+            Err(_) => unreachable!(),
+        }
+    }
+
+    /// The place of a name by a search. It is added where it is new.
+    fn search(&mut self, name: Label) -> Result<u32, NoMemory>
+        requires { length self.old.labels.items < 2 ^ 32 }
+        ensures place { IfOk result (λ place. slice_get self.new.labels.items place ≡ Some name) }
+        ensures labels { OnOk result (self.new.labels.items ≡ with_name name self.old.labels.items) }
+        ensures begun { AreBegun self.old.labels.items self.new.labels.items }
+        ensures few { length self.new.labels.items ≤ length self.old.labels.items + 1 }
+    {
+        match self.places.get(&name) {
+            Some(place) => Ok(*place),
+            None => self.add(name),
+        }
+    }
+
+    /// The place of a name, which is added where it is new.
+    pub fn place(&mut self, name: Label) -> Result<u32, NoMemory>
+        requires { length self.old.labels.items < 2 ^ 32 }
+        ensures place { IfOk result (λ place. slice_get self.new.labels.items place ≡ Some name) }
+        ensures labels { OnOk result (self.new.labels.items ≡ with_name name self.old.labels.items) }
+        ensures begun { AreBegun self.old.labels.items self.new.labels.items }
+        ensures few { length self.new.labels.items ≤ length self.old.labels.items + 1 }
+    {
+        if self.came_last(&name) {
+            return Ok(self.last);
+        }
+        let place = self.search(name)?;
+        self.last = place;
+        Ok(place)
+    }
+
+    /// The names.
+    pub fn into_labels(self) -> Items<Label>
+        ensures { result ≡ self.labels.items }
+    {
+        let Names { labels, .. } = self;
+        Items::from_vec(labels)
+    }
+}
