@@ -1,0 +1,3 @@
+pub mod LocalTime
+pub mod Findings
+pub mod Choice
