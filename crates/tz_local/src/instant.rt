@@ -1,6 +1,7 @@
 //! The instant that a local time stands for, by a choice where it stands for none or for several.
 ghost use Rattle.std.specs.Prelude.{◌≡◌, ◌↔◌, Some, None, IfOk};
 ghost use Rattle.tz_types.specs.declared.range.LocalInfo.{LocalInfo};
+ghost use Rattle.tz_specs.specs.Expansion.{IsInstant};
 ghost use Rattle.tz_specs.specs.Local.{local_info, chosen_instant};
 ghost use Rattle.tz_expand.specs.Zone.{expansion_of};
 ghost use Rattle.tz_local.specs.LocalTime.{IsLocalTime};
@@ -61,6 +62,7 @@ pub fn to_sys(zone: &CompiledZone, l: i64, choose: Option<Choose>) -> Result<i64
     ensures out_of_range { (result ≡ Err ToSysError.OutOfRange) ↔ ¬ (IsLocalTime l) }
     ensures undecided { (info : LocalInfo) → (result ≡ Err (ToSysError.Undecided info)) ↔ (IsLocalTime l × (local_info (expansion_of zone.now) l ≡ Some info) × (choose ≡ None) × IsNotUnique info) }
     ensures instant { IfOk result (λ t. (info : LocalInfo) × (local_info (expansion_of zone.now) l ≡ Some info) × (chosen_instant info l choose ≡ Some t)) }
+    ensures in_time { IfOk result IsInstant }
 {
     let Ok(info) = local_info(zone, l) else {
         return Err(ToSysError::OutOfRange);

@@ -10,9 +10,11 @@
 mod findings;
 mod info;
 mod instant;
+mod laws;
 mod out_of_range;
 mod range;
 
 pub use info::local_info;
 pub use instant::{ToSysError, to_sys};
+pub use laws::{gaps_are_jumped_over, instants_show_their_local_times};
 pub use out_of_range::OutOfRange;

@@ -1,4 +1,4 @@
-use Rattle.std.proofs.Common.{FitsSigned, Some, None, Err, refl, ap, sym, subst, ◌∙◌, ◌≡◌}
+use Rattle.std.proofs.Common.{rules, FitsSigned, Some, None, Err, refl, ap, sym, subst, ◌∙◌, ◌≡◌}
 use Rattle.std.specs.Int.{w64}
 use Rattle.std.proofs.lemmas.Int.{to_z-of_z}
 use Rattle.std.proofs.lemmas.Option.{same_Some}
@@ -8,6 +8,7 @@ use Rattle.tz_expand.specs.Zone.{expansion_of}
 use Rattle.tz_local.specs.declared.instant.ToSysError.TheVariants.{Undecided}
 use Rattle.tz_local.specs.Choice.{IsNotUnique}
 use Rattle.tz_local.proofs.InstantLemmas.{undecided, decided, info_near}
+use Rattle.tz_local.proofs.ClockLemmas.{chosen_in_time}
 use Rattle.tz_local.proofs.instant.to_sys.Goals as goal
 
 pub instant_of-requires-clause-near : goal.instant_of-requires-clause-near
@@ -35,3 +36,9 @@ returns-in-None-clause-undecided c = λ info.
           let is : c.in-Ok.info ≡ info = same_Some c.in-Ok.info info (sym told ∙ facts.1) in
           ap (λ (i : LocalInfo). Err (Undecided i)) is,
     )
+
+pub returns-in-Some-clause-in_time : goal.returns-in-Some-clause-in_time
+returns-in-Some-clause-in_time c =
+    let fits : FitsSigned w64 c.in-Some.t = search rules in
+    let inside = chosen_in_time c.args.zone.now _ c.in-Some.t c.in-Ok.info c.args.choose c.in-Ok.ensures.info (sym c.instant_of.ensures ∙ c.in-Some.is) in
+    simp to_z-of_z inside
