@@ -103,7 +103,10 @@ impl PartialEq for ZonedTime<'_> {
 
     ghost laws = { Prim.search (comparing, rules) };
 
-    fn eq(&self, other: &Self) -> bool {
+    fn eq(&self, other: &Self) -> bool
+        ensures answer { result ≡ ⟦<Self as PartialEq>⟧.eq self.now other.now }
+        ensures equal { IsTrue result ↔ ((self.now.zone.now.name ≡ other.now.zone.now.name) × (self.now.number ≡ other.now.number) × (self.now.sys ≡ other.now.sys)) }
+    {
         self.zone.name == other.zone.name && self.number == other.number && self.sys == other.sys
     }
 }
