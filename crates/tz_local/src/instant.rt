@@ -1,11 +1,10 @@
 //! The instant that a local time stands for, by a choice where it stands for none or for several.
-ghost use Rattle.std.specs.Prelude.{◌≡◌, ◌↔◌, Some, None, IfOk};
+ghost use Rattle.std.specs.Prelude.{◌≡◌, ◌↔◌, None, IfOk};
 ghost use Rattle.tz_types.specs.declared.range.LocalInfo.{LocalInfo};
 ghost use Rattle.tz_specs.specs.Expansion.{IsInstant};
-ghost use Rattle.tz_specs.specs.Local.{local_info, chosen_instant};
-ghost use Rattle.tz_expand.specs.Zone.{expansion_of};
+ghost use Rattle.tz_specs.specs.Local.{chosen_instant};
 ghost use Rattle.tz_local.specs.LocalTime.{IsLocalTime};
-ghost use Rattle.tz_local.specs.Choice.{HasNearOffsets, IsNotUnique};
+ghost use Rattle.tz_local.specs.Choice.{HasNearOffsets, IsInstantOf, NeedsChoice};
 
 use crate::local_info;
 use std::error::Error;
@@ -60,8 +59,8 @@ fn instant_of(info: &LocalInfo, l: i64, choose: Option<Choose>) -> Option<i64>
 /// and `l` is shown by no range or by several. It takes no memory.
 pub fn to_sys(zone: &CompiledZone, l: i64, choose: Option<Choose>) -> Result<i64, ToSysError>
     ensures out_of_range { (result ≡ Err ToSysError.OutOfRange) ↔ ¬ (IsLocalTime l) }
-    ensures undecided { (info : LocalInfo) → (result ≡ Err (ToSysError.Undecided info)) ↔ (IsLocalTime l × (local_info (expansion_of zone.now) l ≡ Some info) × (choose ≡ None) × IsNotUnique info) }
-    ensures instant { IfOk result (λ t. (info : LocalInfo) × (local_info (expansion_of zone.now) l ≡ Some info) × (chosen_instant info l choose ≡ Some t)) }
+    ensures undecided { (info : LocalInfo) → (result ≡ Err (ToSysError.Undecided info)) ↔ ((choose ≡ None) × NeedsChoice zone.now l info) }
+    ensures instant { IfOk result (λ t. IsInstantOf zone.now l choose t) }
     ensures in_time { IfOk result IsInstant }
 {
     let Ok(info) = local_info(zone, l) else {

@@ -1,10 +1,9 @@
-ghost use Rattle.std.specs.Prelude.{◌≡◌, ◌↔◌, ◌<◌, ℕ, Some, None, IsOk, IfOk};
+ghost use Rattle.std.specs.Prelude.{◌≡◌, ◌↔◌, ◌<◌, Some, None, IsOk, IfOk};
 ghost use Rattle.tz_types.specs.declared.range.LocalInfo.{LocalInfo};
 ghost use Rattle.tz_specs.specs.Expansion.{IsInstant, range_at};
-ghost use Rattle.tz_specs.specs.Local.{local_info, chosen_instant};
 ghost use Rattle.tz_expand.specs.Zone.{expansion_of};
 ghost use Rattle.tz_local.specs.LocalTime.{IsLocalTime};
-ghost use Rattle.tz_local.specs.Choice.{IsNotUnique};
+ghost use Rattle.tz_local.specs.Choice.{IsInstantOf, NeedsChoice};
 ghost use Rattle.tz_local.specs.Clock.{ShowsAt};
 
 use std::marker::Brand;
@@ -58,8 +57,8 @@ impl<'v> ZonedTime<'v> {
         choose: Option<Choose>,
     ) -> Result<Self, ToSysError>
         ensures out_of_range { (result ≡ Err ToSysError.OutOfRange) ↔ ¬ (IsLocalTime l) }
-        ensures undecided { (info : LocalInfo) → (result ≡ Err (ToSysError.Undecided info)) ↔ (IsLocalTime l × (local_info (expansion_of zone.now) l ≡ Some info) × (choose ≡ None) × IsNotUnique info) }
-        ensures instant { IfOk result (λ time. (info : LocalInfo) × (local_info (expansion_of zone.now) l ≡ Some info) × (chosen_instant info l choose ≡ Some time.sys)) }
+        ensures undecided { (info : LocalInfo) → (result ≡ Err (ToSysError.Undecided info)) ↔ ((choose ≡ None) × NeedsChoice zone.now l info) }
+        ensures instant { IfOk result (λ time. IsInstantOf zone.now l choose time.sys) }
         ensures made { IfOk result (λ time. (time.zone.now ≡ zone.now) × (time.number ≡ number)) }
     {
         match to_sys(zone, l, choose) {

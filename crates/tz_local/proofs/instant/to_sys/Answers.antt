@@ -20,9 +20,9 @@ returns-in-Some-clause-undecided c = λ info. (
   λ facts.
       let fits : FitsSigned w64 c.args.l = c.ranges.l in
       let told = simp to_z-of_z at c.in-Ok.ensures.info in
-      let is : c.in-Ok.info ≡ info = same_Some c.in-Ok.info info (sym told ∙ facts.1) in
-      let not_unique : IsNotUnique c.in-Ok.info = subst IsNotUnique (sym is) facts.3 in
-      absurd (decided c.in-Ok.info _ c.in-Some.t c.args.choose (sym c.instant_of.ensures ∙ c.in-Some.is) facts.2 not_unique),
+      let is : c.in-Ok.info ≡ info = same_Some c.in-Ok.info info (sym told ∙ facts.1.1) in
+      let not_unique : IsNotUnique c.in-Ok.info = subst IsNotUnique (sym is) facts.1.2 in
+      absurd (decided c.in-Ok.info _ c.in-Some.t c.args.choose (sym c.instant_of.ensures ∙ c.in-Some.is) facts.0 not_unique),
 )
 
 pub returns-in-None-clause-undecided : goal.returns-in-None-clause-undecided
@@ -31,9 +31,9 @@ returns-in-None-clause-undecided c = λ info.
     let told = simp to_z-of_z at c.in-Ok.ensures.info in
     let inside = simp to_z-of_z at c.in-Ok.ensures.in_range in
     let none = undecided c.in-Ok.info _ c.args.choose (sym c.instant_of.ensures ∙ c.in-None.is) in (
-      λ same. let is : c.in-Ok.info ≡ info = cc in (inside.0 refl, subst (λ (i : LocalInfo). local_info (expansion_of c.args.zone.now) c.args.l ≡ Some i) is told, none.0, subst IsNotUnique is none.1),
+      λ same. let is : c.in-Ok.info ≡ info = cc in (none.0, (inside.0 refl, subst (λ (i : LocalInfo). local_info (expansion_of c.args.zone.now) c.args.l ≡ Some i) is told, subst IsNotUnique is none.1)),
       λ facts.
-          let is : c.in-Ok.info ≡ info = same_Some c.in-Ok.info info (sym told ∙ facts.1) in
+          let is : c.in-Ok.info ≡ info = same_Some c.in-Ok.info info (sym told ∙ facts.1.1) in
           ap (λ (i : LocalInfo). Err (Undecided i)) is,
     )
 
