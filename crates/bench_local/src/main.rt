@@ -6,7 +6,9 @@
 //! from 1970 to 2037 in no order. The line that is printed is a sum, so that no work can be left out.
 #![tactic(auto)]
 
-ghost use Rattle.std.specs.Prelude.{◌≡◌, ◌<◌, ◌≤◌, length};
+ghost use Rattle.std.specs.Prelude.{◌≡◌, ◌<◌, ◌≤◌, length, IsTrue, IfSome};
+ghost use Rattle.tz_types.specs.Format.{is_format};
+ghost use Rattle.tz_specs.specs.Expansion.{first_instant, end_of_time};
 
 use std::alloc::Global;
 use std::marker::Brand;
@@ -53,26 +55,43 @@ impl Seconds {
     }
 }
 
-/// New York under a rule set over all of time.
-fn new_york(alloc: Global, set: Shared<RuleSet>) -> io::Result<CompiledZone> {
-    let (Ok(name), Ok(before), Ok(after)) = (
-        Label::new(b"America/New_York"),
-        Abbrev::new(b"E"),
-        Abbrev::new(b"T"),
-    ) else {
-        return Err(refused());
+/// New York's abbreviations: `E%sT`.
+fn format() -> Option<Format>
+    ensures { IfSome result (λ format. IsTrue (is_format format)) }
+{
+    let Ok(before) = Abbrev::new(b"E") else {
+        return None;
     };
+    let Ok(after) = Abbrev::new(b"T") else {
+        return None;
+    };
+    Some(Format::Letters { before, after })
+}
+
+/// New York's one line under a rule set, over all of time.
+fn line(set: Shared<RuleSet>, format: Format) -> CompiledLine
+    requires { IsTrue (is_format format) }
+    ensures begin { result.start ≡ first_instant }
+    ensures end { result.end ≡ end_of_time }
+{
     let letters = letters_before(set.get());
-    let mut lines = Items::new(alloc);
-    let line = CompiledLine {
+    CompiledLine {
         start: FIRST_INSTANT,
         end: END_OF_TIME,
         stdoff: -18_000,
-        format: Format::Letters { before, after },
+        format,
         rules: CompiledRules::Set(set),
         letters,
+    }
+}
+
+/// New York under a rule set.
+fn new_york(alloc: Global, set: Shared<RuleSet>) -> io::Result<CompiledZone> {
+    let (Ok(name), Some(format)) = (Label::new(b"America/New_York"), format()) else {
+        return Err(refused());
     };
-    match lines.push(line) {
+    let mut lines = Items::new(alloc);
+    match lines.push(line(set, format)) {
         Ok(()) => Ok(CompiledZone { name, lines }),
         Err(_) => Err(io::Error::from(io::ErrorKind::OutOfMemory)),
     }
