@@ -1,0 +1,5 @@
+pub mod FindingsLemmas
+pub mod OffsetLemmas
+pub mod InfoLemmas
+pub mod InstantLemmas
+pub mod ClockLemmas

@@ -1,0 +1,4 @@
+pub mod LocalTime
+pub mod Findings
+pub mod Choice
+pub mod Clock
