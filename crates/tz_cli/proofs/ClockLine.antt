@@ -6,7 +6,7 @@ use Rattle.tz_specs.specs.LeapText.{ReadsLeaps}
 use Rattle.tz_cli.specs.Conversion.{IsConvertible, IsConversionLine}
 use Rattle.tz_cli.specs.Clock.{ClockAnswers}
 use Rattle.tz_cli.specs.Refusal.{Gives, RefusesRange}
-use Rattle.tz_cli.specs.declared.conversion.Conversion.{Conversion}
+use Rattle.tz_output.specs.declared.conversion.Conversion.{Conversion}
 use Rattle.tz_cli.specs.declared.refusal.Refusal.{Refusal}
 use Rattle.tz_cli.specs.declared.refusal.Refusal.TheVariants as refusals
 

@@ -1,6 +1,6 @@
 -- What is due at a status, and which status is.
 use Rattle.std.proofs.Common.{◌≡◌, ℕ, List, ◌⊎◌, inl, inr, Option, Some, IsSomeAnd, refl, subst}
-use Rattle.tz_cli.specs.Command.{Command, Info, Check, Clock, IsCommand, source}
+use Rattle.tz_cli.specs.Command.{Command, Info, Dump, Check, Clock, IsCommand, source}
 use Rattle.tz_cli.specs.Answer.{TextAnswers, IsAnswer}
 use Rattle.tz_cli.specs.Outcome.{Contents, told_content, IsDueFor, IsDue}
 use Rattle.tz_cli.specs.Refusal.{Refuses, refusal_status, refusal_line}
@@ -14,6 +14,7 @@ use Rattle.tz_cli.proofs.Once.{once}
 -- no command answers that the words are those of none
 no_usage : (command : Command) (text line : List ℕ) → TextAnswers command text statuses.Usage line → ⊥
 no_usage (Info name zone t) text line answer = answer
+no_usage (Dump name from to zone) text line answer = answer
 no_usage (Check name) text line answer = answer
 no_usage (Clock name conversion number) text line answer = answer
 
@@ -28,7 +29,7 @@ for_words words told failed command status line is due = (command, is, due)
 
 -- the line of a refusal is due at its status
 pub refusal_due : (command : Command) (told : Option Contents) (failed : List ℕ → Type 0) (refusal : Refusal) → Refuses (IsDueFor command told failed) refusal → IsDueFor command told failed (refusal_status refusal) (refusal_line refusal)
-refusal_due command told failed refusals.Memory refused = refl
+refusal_due command told failed refusals.Memory refused = inl refl
 refusal_due command told failed refusal refused = refused
 
 -- where no read failed, one status is due beside want of memory

@@ -18,6 +18,16 @@ four (w ∷ x ∷ y ∷ []) a b c d h p q r s = absurd (omega arith)
 four (w ∷ x ∷ y ∷ z ∷ []) a b c d h p q r s = cc
 four (w ∷ x ∷ y ∷ z ∷ v ∷ xs) a b c d h p q r s = absurd (omega arith)
 
+-- a list of five elements is those at its five places
+pub five : {A : Type 0} (xs : List A) (a b c d e : A) → length xs ≡ 5 → a ≡ get_or xs 0 a → b ≡ get_or xs 1 b → c ≡ get_or xs 2 c → d ≡ get_or xs 3 d → e ≡ get_or xs 4 e → xs ≡ a ∷ b ∷ c ∷ d ∷ e ∷ []
+five [] a b c d e h p q r s t = absurd (omega arith)
+five (w ∷ []) a b c d e h p q r s t = absurd (omega arith)
+five (w ∷ x ∷ []) a b c d e h p q r s t = absurd (omega arith)
+five (w ∷ x ∷ y ∷ []) a b c d e h p q r s t = absurd (omega arith)
+five (w ∷ x ∷ y ∷ z ∷ []) a b c d e h p q r s t = absurd (omega arith)
+five (w ∷ x ∷ y ∷ z ∷ v ∷ []) a b c d e h p q r s t = cc
+five (w ∷ x ∷ y ∷ z ∷ v ∷ u ∷ xs) a b c d e h p q r s t = absurd (omega arith)
+
 -- texts that are alike byte by byte are equal
 pub alike : (word entry : List ℕ) → false ≡ not (bytes_eq word entry) → word ≡ entry
 alike word entry h = (bytes_eq-Decides word entry).0 (yes_not (bytes_eq word entry) h)

@@ -3,5 +3,8 @@ pub mod InfoLine
 pub mod FewWords
 pub mod Contents
 pub mod ClockLine
+pub mod Asked
 pub mod Once
 pub mod Due
+pub mod Dumps
+pub mod Outputs

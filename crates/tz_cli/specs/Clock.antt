@@ -5,7 +5,7 @@ use Rattle.tz_types.specs.declared.leaps.Leaps.{Leaps}
 use Rattle.tz_specs.specs.LeapText.{ReadsLeaps, RefusesLeaps}
 use Rattle.tz_cli.specs.Line.{fault_line}
 use Rattle.tz_cli.specs.Conversion.{IsConvertible, IsConversionLine}
-use Rattle.tz_cli.specs.declared.conversion.Conversion.{Conversion}
+use Rattle.tz_output.specs.declared.conversion.Conversion.{Conversion}
 use Rattle.tz_cli.specs.declared.status.Status.{Status}
 use Rattle.tz_cli.specs.declared.status.Status.TheVariants as statuses
 

@@ -1,22 +1,12 @@
--- The conversions of `clock`, from a count of one clock to that of another: their words, their ranges, their lines.
-use Rattle.std.specs.Prelude.{◌≡◌, ℕ, List, codes, ℤ, ◌+ℤ◌, ◌-ℤ◌}
+-- The conversions of `clock`, from a count of one clock to that of another: their ranges and their lines.
+use Rattle.std.specs.Prelude.{◌≡◌, ℕ, List, ℤ, ◌+ℤ◌, ◌-ℤ◌}
 use Rattle.tz_types.specs.declared.leaps.Leaps.{Leaps}
 use Rattle.tz_types.specs.declared.leap_info.LeapInfo.{LeapInfo}
 use Rattle.tz_specs.specs.Expansion.{IsInstant}
 use Rattle.tz_specs.specs.LeapSecond.{IsUtcCount, IsSystemTime, IsLeapInfo, utc_count, tai_count, gps_count, tai_ahead, gps_behind}
 use Rattle.tz_cli.specs.Line.{number_line, leap_line}
-use Rattle.tz_cli.specs.declared.conversion.Conversion.{Conversion}
-use Rattle.tz_cli.specs.declared.conversion.Conversion.TheVariants as conversions
-
--- the word that stands for a conversion
-abbrev pub conversion_word : Conversion → List ℕ
-conversion_word conversions.SysToUtc = codes "sys-utc"
-conversion_word conversions.UtcToSys = codes "utc-sys"
-conversion_word conversions.UtcInfo = codes "utc-info"
-conversion_word conversions.UtcToTai = codes "utc-tai"
-conversion_word conversions.TaiToUtc = codes "tai-utc"
-conversion_word conversions.UtcToGps = codes "utc-gps"
-conversion_word conversions.GpsToUtc = codes "gps-utc"
+use Rattle.tz_output.specs.declared.conversion.Conversion.{Conversion}
+use Rattle.tz_output.specs.declared.conversion.Conversion.TheVariants as conversions
 
 -- The number is in range: a system time, or a UTC count. Counts of TAI and GPS are in range where their UTC count is.
 abbrev pub IsConvertible : Conversion → Leaps → ℤ → Type 0

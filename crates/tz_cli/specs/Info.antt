@@ -4,7 +4,7 @@ use Rattle.tz_types.specs.declared.range.SysInfo.{SysInfo}
 use Rattle.tz_types.specs.declared.zone.Zone.{Zone}
 use Rattle.tz_types.specs.declared.database.Db.{Db}
 use Rattle.tz_specs.specs.Expansion.{IsInstant, periods_of, full_expansion, range_at}
-use Rattle.tz_specs.specs.Unbuilt.{ReadsSoFar}
+use Rattle.tz_specs.specs.Reads.{Reads}
 use Rattle.tz_lines.specs.Locate.{located}
 use Rattle.tz_cli.specs.Line.{range_line}
 use Rattle.tz_cli.specs.Text.{IsTextRefusal}
@@ -14,7 +14,7 @@ use Rattle.tz_cli.specs.declared.status.Status.TheVariants as statuses
 -- The line is that of the range that holds the instant, in the full expansion of the zone named, of the text.
 pub record IsInfoLine (text name : List ℕ) (t : ℤ) (line : List ℕ) : Type 0 where
   pub db : Db
-  pub reads : ReadsSoFar text db
+  pub reads : Reads text db
   pub place : ℕ
   pub named : located db name ≡ Some place
   pub zone : Zone
@@ -27,13 +27,13 @@ pub record IsInfoLine (text name : List ℕ) (t : ℤ) (line : List ℕ) : Type 
 -- No zone and no link of the text has the name.
 pub record HasNoZone (text name : List ℕ) : Type 0 where
   pub db : Db
-  pub reads : ReadsSoFar text db
+  pub reads : Reads text db
   pub none : located db name ≡ None
 
 -- The text has the zone, and the instant lies outside of time.
 pub record IsOutOfTime (text name : List ℕ) (t : ℤ) : Type 0 where
   pub db : Db
-  pub reads : ReadsSoFar text db
+  pub reads : Reads text db
   pub there : IsSome (located db name)
   pub outside : ¬ (IsInstant t)
 

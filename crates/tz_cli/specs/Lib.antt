@@ -4,7 +4,10 @@ pub mod Line
 pub mod Text
 pub mod Info
 pub mod Check
+pub mod Dump
 pub mod Clock
 pub mod Answer
 pub mod Outcome
 pub mod Refusal
+pub mod Dumping
+pub mod Output

@@ -1,5 +1,5 @@
 -- How answers are printed: each as one line.
-use Rattle.std.specs.Prelude.{ℕ, Bool, if◌then◌else◌, List, [], ◌∷◌, ◌++◌, length, codes, ℤ}
+use Rattle.std.specs.Prelude.{ℕ, List, ◌++◌, length, codes, ℤ}
 use Rattle.std.specs.List.{sum_by}
 use Rattle.std.specs.Fmt.{decimal, signed_decimal}
 use Rattle.tz_types.specs.declared.range.SysInfo.{SysInfo}
@@ -7,19 +7,10 @@ use Rattle.tz_types.specs.declared.fault.Fault.{Fault}
 use Rattle.tz_types.specs.declared.leap_info.LeapInfo.{LeapInfo}
 use Rattle.tz_types.specs.declared.rule_set.RuleSet.{RuleSet}
 use Rattle.tz_types.specs.declared.database.Db.{Db}
+use Rattle.tz_output.specs.Range.{range_text}
+use Rattle.tz_output.specs.LeapInfo.{leap_text}
 
--- an abbreviation, and `""` where it has no bytes
-abbrev pub shown : List ℕ → List ℕ
-shown [] = codes "\"\""
-shown (byte ∷ bytes) = byte ∷ bytes
-
--- `BEGIN END OFFSET SAVE ABBREV`, without a newline
-unfoldable pub range_text : SysInfo → List ℕ
-range_text range =
-    signed_decimal range.begin ++ codes " " ++ signed_decimal range.end ++ codes " " ++ signed_decimal range.offset
-    ++ codes " " ++ signed_decimal range.save ++ codes " " ++ shown range.abbrev
-
--- the same as a line
+-- a range
 abbrev pub range_line : SysInfo → List ℕ
 range_line range = range_text range ++ codes "\n"
 
@@ -27,12 +18,9 @@ range_line range = range_text range ++ codes "\n"
 abbrev pub number_line : ℤ → List ℕ
 number_line number = signed_decimal number ++ codes "\n"
 
--- `leap E` for an added second and `plain E` for another, where E seconds were added up to it, less those that were
--- skipped, and behind it ` expired` where the table isn't known to hold
-unfoldable pub leap_line : LeapInfo → List ℕ
-leap_line info =
-    (if info.is_leap then codes "leap " else codes "plain ") ++ signed_decimal info.elapsed
-    ++ (if info.expired then codes " expired" else []) ++ codes "\n"
+-- what there is to know of a UTC count
+abbrev pub leap_line : LeapInfo → List ℕ
+leap_line info = leap_text info ++ codes "\n"
 
 -- how many rules a database has, in all its sets
 abbrev pub rule_count : Db → ℕ

@@ -1,8 +1,8 @@
 -- What is due at each status.
-use Rattle.std.specs.Prelude.{◌≡◌, ℕ, List, [], Option, Some, None, IsSomeAnd, codes}
+use Rattle.std.specs.Prelude.{◌≡◌, ℕ, ◌⊎◌, List, [], ◌++◌, take, Option, Some, None, IsSomeAnd, IsTrue, codes}
 use Rattle.tz_io.specs.Counts.{Rose}
 use Rattle.tz_cli.specs.Command.{Command, IsCommand, IsNoCommand, source}
-use Rattle.tz_cli.specs.Answer.{IsAnswer}
+use Rattle.tz_cli.specs.Answer.{IsAnswer, comes_in_pieces}
 use Rattle.tz_cli.specs.declared.status.Status.{Status}
 use Rattle.tz_cli.specs.declared.status.Status.TheVariants as statuses
 
@@ -26,10 +26,19 @@ MayRead (Some contents) (Some name) content = contents name ≡ Some content
 abbrev pub Failed : (List ℕ → ℕ) → (List ℕ → ℕ) → List ℕ → Type 0
 Failed before now name = Rose (before name) (now name)
 
+-- Memory ran out: the line says so alone, or behind a first part of the text of a command that comes in pieces.
+abbrev pub IsMemoryLine : Command → Option Contents → List ℕ → Type 0
+IsMemoryLine command told line =
+    (line ≡ codes "memory\n")
+    ⊎ (IsTrue (comes_in_pieces command)
+    × (content : List ℕ) × MayRead told (source command) content
+    × (text : List ℕ) × IsAnswer command content statuses.Ok text
+    × (count : ℕ) × (line ≡ take count text ++ codes "memory\n"))
+
 -- The line is due at that status of a command, by what the files tell and which of them failed.
 abbrev pub IsDueFor : Command → Option Contents → (List ℕ → Type 0) → Status → List ℕ → Type 0
 IsDueFor command told failed statuses.Read line = IsSomeAnd (source command) failed × (line ≡ codes "read\n")
-IsDueFor command told failed statuses.Memory line = line ≡ codes "memory\n"
+IsDueFor command told failed statuses.Memory line = IsMemoryLine command told line
 IsDueFor command told failed status line =
     (content : List ℕ) × MayRead told (source command) content × IsAnswer command content status line
 

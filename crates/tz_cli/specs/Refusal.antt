@@ -2,7 +2,7 @@
 use Rattle.std.specs.Prelude.{ℕ, ◌<◌, List, length, Option, IsSomeAnd, Result, Ok, Err, Vec, codes}
 use Rattle.std.specs.declared.alloc.Global.{Global}
 use Rattle.tz_cli.specs.Line.{fault_line}
-use Rattle.tz_specs.specs.Unbuilt.{RefusesSoFar}
+use Rattle.tz_specs.specs.Reads as texts
 use Rattle.tz_cli.specs.Answer.{most_bytes}
 use Rattle.tz_cli.specs.Outcome.{Contents, MayRead}
 use Rattle.tz_cli.specs.declared.status.Status.{Status}
@@ -43,7 +43,7 @@ Gives answers (Err refusal) = Refuses answers refusal
 -- want of memory, or the text is refused
 abbrev pub RefusesAsText : List ℕ → Refusal → Type 0
 RefusesAsText text refusals.Memory = Unit {0}
-RefusesAsText text (refusals.Text fault) = RefusesSoFar text fault
+RefusesAsText text (refusals.Text fault) = texts.Refuses text fault
 RefusesAsText text _ = ⊥
 
 -- want of memory, or out of range for that reason

@@ -5,7 +5,6 @@ ghost use Rattle.tz_cli.specs.Clock.{ClockAnswers};
 ghost use Rattle.tz_cli.specs.Refusal.{Gives, RefusesRange};
 ghost use Rattle.tz_types.specs.declared.leap_info.LeapInfo.{LeapInfo};
 
-use crate::conversion::Conversion;
 use crate::line::{leap_line, number_line};
 use crate::refusal::Refusal;
 use std::alloc::Global;
@@ -13,6 +12,7 @@ use tz_leap::{
     OutOfRange, gps_of_utc, leap_info, sys_of_utc, tai_of_utc, utc_of_gps, utc_of_sys, utc_of_tai,
 };
 use tz_lines::{ReadError, read_leaps};
+use tz_output::Conversion;
 use tz_types::{LeapInfo, Leaps};
 
 /// The line of a count, where it is in range.

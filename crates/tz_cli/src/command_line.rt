@@ -1,7 +1,7 @@
 ghost use Rattle.std.specs.Prelude.{◌≡◌, Some, None, IsNone, IfSome};
 ghost use Rattle.tz_cli.specs.Command.{source, meant};
 
-use crate::conversion::Conversion;
+use tz_output::Conversion;
 
 /// A command, with what its words name.
 #[derive(Clone, Copy)]
@@ -10,6 +10,12 @@ pub enum CommandLine<'w> {
         text: &'w str,
         zone: &'w str,
         instant: i64,
+    },
+    Dump {
+        text: &'w str,
+        from: i64,
+        to: i64,
+        zone: &'w str,
     },
     Check {
         text: &'w str,
@@ -28,7 +34,9 @@ impl<'w> CommandLine<'w> {
         ensures none { IsNone result → source (meant self.entry) ≡ None }
     {
         match self {
-            CommandLine::Info { text, .. } | CommandLine::Check { text } => Some(text),
+            CommandLine::Info { text, .. }
+            | CommandLine::Dump { text, .. }
+            | CommandLine::Check { text } => Some(text),
             CommandLine::Clock { leaps: "-", .. } => None,
             CommandLine::Clock { leaps, .. } => Some(leaps),
         }

@@ -1,16 +1,17 @@
 //! Commands: the words, the files and the printed line.
 //!
-//! `run_plain` does a whole command: `info TEXT ZONE T` prints the range of a zone that holds an instant, `check TEXT`
-//! the counts of what a text has, and `clock LEAPS CONV X` a count of one clock by that of another. A command that is
-//! refused prints why.
+//! `run_plain` does a whole command: `info TEXT ZONE T` prints the range of a zone that holds an instant, `dump TEXT FROM TO
+//! ZONE` all its ranges that meet a stretch of time, `check TEXT` the counts of what a text has, and `clock LEAPS CONV X` a
+//! count of one clock by that of another. A command that is refused prints why.
 #![tactic(auto)]
 
 mod check;
 mod clock;
 mod command_line;
-mod conversion;
+mod dump;
 mod info;
 mod line;
+mod output;
 mod printing;
 mod reading;
 mod refusal;
@@ -18,6 +19,8 @@ mod status;
 mod text;
 mod top;
 mod words;
+mod zone_dump;
+mod zones;
 
 pub use status::{Plain, Status};
 pub use top::run_plain;

@@ -1,36 +1,18 @@
-ghost use Rattle.std.specs.Prelude.{◌≡◌, ◌≤◌, ◌<◌, ◌*◌, ◌^◌, ◌++◌, [], codes, if◌then◌else◌, IfOk, OnOk};
+ghost use Rattle.std.specs.Prelude.{◌≡◌, ◌≤◌, ◌<◌, ◌*◌, ◌^◌, ◌++◌, IfOk, OnOk};
 ghost use Rattle.std.specs.Fmt.{decimal};
-ghost use Rattle.tz_cli.specs.Line.{shown, range_line, number_line, leap_line, rule_count, check_line, fault_line};
+ghost use Rattle.tz_cli.specs.Line.{range_line, number_line, leap_line, rule_count, check_line, fault_line};
 
 use std::alloc::Global;
+use tz_output::{put_leap_info, put_range};
 use tz_text::put_number;
-use tz_types::{Abbrev, Db, Fault, LeapInfo, NoMemory, SysInfo};
-
-/// An abbreviation, and `""` where it has no bytes.
-fn shown(abbreviation: &Abbrev) -> &[u8]
-    ensures { result.now ≡ shown abbreviation.now }
-{
-    match abbreviation.as_bytes() {
-        [] => b"\"\"",
-        bytes => bytes,
-    }
-}
+use tz_types::{Db, Fault, LeapInfo, NoMemory, SysInfo};
 
 /// The line of a range.
-#[tactic(auto, unfolding(crate::specs::Line::range_text))]
 pub fn range_line(alloc: Global, range: &SysInfo) -> Result<Vec<u8>, NoMemory>
     ensures { IfOk result (λ line. line.items ≡ range_line range.now) }
 {
     let mut line = Vec::new(alloc);
-    put_number(&mut line, range.begin)?;
-    line.extend_from_slice(b" ")?;
-    put_number(&mut line, range.end)?;
-    line.extend_from_slice(b" ")?;
-    put_number(&mut line, range.offset)?;
-    line.extend_from_slice(b" ")?;
-    put_number(&mut line, range.save)?;
-    line.extend_from_slice(b" ")?;
-    line.extend_from_slice(shown(&range.abbrev))?;
+    put_range(&mut line, range)?;
     line.extend_from_slice(b"\n")?;
     Ok(line)
 }
@@ -45,28 +27,12 @@ pub fn number_line(alloc: Global, number: i64) -> Result<Vec<u8>, NoMemory>
     Ok(line)
 }
 
-/// The word for an added second, and that for another.
-fn leap_word(is_leap: bool) -> &'static [u8]
-    ensures { result.now ≡ (if is_leap then codes "leap " else codes "plain ") }
-{
-    if is_leap { b"leap " } else { b"plain " }
-}
-
-/// The word that stands behind where the table isn't known to hold.
-fn expired_word(expired: bool) -> &'static [u8]
-    ensures { result.now ≡ (if expired then codes " expired" else []) }
-{
-    if expired { b" expired" } else { b"" }
-}
-
 /// The line of what there is to know of a UTC count.
-#[tactic(auto, unfolding(crate::specs::Line::leap_line))]
 pub fn leap_line(alloc: Global, info: LeapInfo) -> Result<Vec<u8>, NoMemory>
     ensures { IfOk result (λ line. line.items ≡ leap_line info) }
 {
-    let mut line = leap_word(info.is_leap).to_vec(alloc)?;
-    put_number(&mut line, info.elapsed)?;
-    line.extend_from_slice(expired_word(info.expired))?;
+    let mut line = Vec::new(alloc);
+    put_leap_info(&mut line, info)?;
     line.extend_from_slice(b"\n")?;
     Ok(line)
 }

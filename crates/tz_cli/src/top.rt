@@ -1,37 +1,59 @@
-ghost use Rattle.std.specs.Prelude.{◌≡◌, ◌≢◌, ◌⊎◌, ◌≤◌, ℕ, List, Some, length, IsSomeAnd};
+ghost use Rattle.std.specs.Prelude.{◌≡◌, ◌≢◌, ◌⊎◌, ◌≤◌, ℕ, List, Some, length, IsSomeAnd, IfOk};
 ghost use Rattle.tz_io.specs.Counts.{Rose};
 ghost use Rattle.tz_io.specs.Sink.{Appends, AppendsPart};
 ghost use Rattle.tz_cli.specs.Command.{Command, IsCommand, IsNoCommand, words_of, source, meant};
-ghost use Rattle.tz_cli.specs.Answer.{TextAnswers, IsAnswer};
+ghost use Rattle.tz_cli.specs.Answer.{TextAnswers, IsAnswer, comes_in_pieces};
 ghost use Rattle.tz_cli.specs.Outcome.{told_content, Failed, IsDueFor, IsDue};
-ghost use Rattle.tz_cli.specs.Refusal.{Gives};
+ghost use Rattle.tz_cli.specs.Output.{GivesOutput, as_output, is_in_pieces};
 ghost use Rattle.tz_cli.specs.declared.status.Status.{Status};
 
 use crate::check::check;
 use crate::clock::clock;
 use crate::command_line::CommandLine;
 use crate::info::info;
+use crate::output::{Output, print_output};
 use crate::printing::{print, print_refusal};
 use crate::reading::content_of;
 use crate::refusal::Refusal;
 use crate::words::command_of;
+use crate::zones::dump;
 use crate::{Plain, Status};
 use std::alloc::Global;
+use std::thread::Threads;
 use tz_io::{Files, Sink};
 
+/// A line that was made whole, or its refusal.
+fn line(outcome: Result<Vec<u8>, Refusal>) -> Result<Output, Refusal>
+    ensures { result ≡ as_output outcome }
+{
+    match outcome {
+        Ok(line) => Ok(Output::Line(line)),
+        Err(refusal) => Err(refusal),
+    }
+}
+
 /// What a command comes to over a text.
-fn answer_over(alloc: Global, command: CommandLine<'_>, text: &[u8]) -> Result<Vec<u8>, Refusal>
+fn answer_over(alloc: Global, command: CommandLine<'_>, text: &[u8]) -> Result<Output, Refusal>
     requires { length text.now ≤ 4_194_304 }
-    ensures { Gives (TextAnswers (meant command.entry) text.now) result }
+    ensures answers { GivesOutput (TextAnswers (meant command.entry) text.now) result }
+    ensures pieces { IfOk result (λ output. is_in_pieces output ≡ comes_in_pieces (meant command.entry)) }
 {
     match command {
-        CommandLine::Info { zone, instant, .. } => info(alloc, text, zone.as_bytes(), instant),
-        CommandLine::Check { .. } => check(alloc, text),
+        CommandLine::Info { zone, instant, .. } => {
+            line(info(alloc, text, zone.as_bytes(), instant))
+        }
+        CommandLine::Dump { from, to, zone, .. } => {
+            match dump(alloc, text, from, to, zone.as_bytes()) {
+                Ok(dump) => Ok(Output::Zones(dump)),
+                Err(refusal) => Err(refusal),
+            }
+        }
+        CommandLine::Check { .. } => line(check(alloc, text)),
         CommandLine::Clock {
             conversion,
             number,
             ..
-        } => clock(alloc, text, conversion, number),
+        } => line(clock(alloc, text, conversion, number)),
     }
 }
 
@@ -40,8 +62,9 @@ fn answer<F: Files>(
     alloc: Global,
     command: CommandLine<'_>,
     files: &mut F,
-) -> Result<Vec<u8>, Refusal>
-    ensures due { Gives (IsDueFor (meant command.entry) (F.told files.old) (Failed (F.faults files.old) (F.faults files.new))) result }
+) -> Result<Output, Refusal>
+    ensures due { GivesOutput (IsDueFor (meant command.entry) (F.told files.old) (Failed (F.faults files.old) (F.faults files.new))) result }
+    ensures pieces { IfOk result (λ output. is_in_pieces output ≡ comes_in_pieces (meant command.entry)) }
     ensures told { F.told files.new ≡ F.told files.old }
 {
     match content_of(alloc, command, files) {
@@ -52,6 +75,7 @@ fn answer<F: Files>(
 
 /// Does a command: prints its text or the line of its refusal, and answers the status.
 fn run_command<F: Files, S: Sink>(
+    rt: &(impl Threads + Sync),
     alloc: Global,
     command: CommandLine<'_>,
     files: &mut F,
@@ -68,14 +92,16 @@ fn run_command<F: Files, S: Sink>(
     ensures told { F.told files.new ≡ F.told files.old }
 {
     match answer(alloc, command, files) {
-        Ok(line) => print(sink, line.as_slice(), Status::Ok),
+        Ok(output) => print_output(rt, alloc, &output, sink),
         Err(refusal) => print_refusal(alloc, refusal, sink),
     }
 }
 
-/// Does a whole command, `info`, `check` or `clock`, and answers its status. It prints one line: the text of the
-/// command at `Ok`, and else the line of the refusal. At `Write` a part of that line was taken.
+/// Does a whole command, `info`, `dump`, `check` or `clock`, and answers its status. It prints the text of the command at
+/// `Ok`, and else the line of the refusal. At `Write` a part of that was taken. `dump` prints what it has made before it makes
+/// the rest, so where memory runs out on the way its line stands behind a first part of the text.
 pub fn run_plain<F: Files, S: Sink>(
+    rt: &(impl Threads + Sync),
     alloc: Global,
     words: &[String],
     files: &mut F,
@@ -111,7 +137,7 @@ pub fn run_plain<F: Files, S: Sink>(
     ensures told { F.told files.new ≡ F.told files.old }
 {
     match command_of(words) {
-        Some(command) => Plain::Done(run_command(alloc, command, files, sink)),
+        Some(command) => Plain::Done(run_command(rt, alloc, command, files, sink)),
         None => Plain::Done(print(sink, b"usage\n", Status::Usage)),
     }
 }

@@ -1,9 +1,9 @@
 ghost use Rattle.std.specs.Prelude.{ℕ, List, ℤ, IsNone, IfSome};
-ghost use Rattle.tz_cli.specs.Command.{IsInfo, IsCheck, IsClock, IsCommand, IsNoCommand, words_of, meant};
-ghost use Rattle.tz_cli.specs.declared.conversion.Conversion.{Conversion};
+ghost use Rattle.tz_cli.specs.Command.{IsInfo, IsDumpCommand, IsCheck, IsClock, IsCommand, IsNoCommand, words_of, meant};
+ghost use Rattle.tz_output.specs.declared.conversion.Conversion.{Conversion};
 
 use crate::command_line::CommandLine;
-use crate::conversion::Conversion;
+use tz_output::Conversion;
 use tz_text::signed_number;
 
 /// `info TEXT ZONE T`.
@@ -21,6 +21,33 @@ fn info(words: &[String]) -> Option<CommandLine<'_>>
                     text: text.as_str(),
                     zone: zone.as_str(),
                     instant,
+                }),
+                None => None,
+            }
+        }
+        _ => None,
+    }
+}
+
+/// `dump TEXT FROM TO ZONE`.
+fn dump(words: &[String]) -> Option<CommandLine<'_>>
+    ensures some { IfSome result (λ command. IsCommand (words_of words.now) (meant command)) }
+    ensures none { IsNone result → (text zone : List ℕ) (from to : ℤ) → ¬ (IsDumpCommand (words_of words.now) text from to zone) }
+{
+    match words {
+        [keyword, text, first, last, zone] => {
+            if keyword.as_str() != "dump" {
+                return None;
+            }
+            let Some(from) = signed_number(first.as_bytes()) else {
+                return None;
+            };
+            match signed_number(last.as_bytes()) {
+                Some(to) => Some(CommandLine::Dump {
+                    text: text.as_str(),
+                    from,
+                    to,
+                    zone: zone.as_str(),
                 }),
                 None => None,
             }
@@ -79,6 +106,9 @@ pub fn command_of(words: &[String]) -> Option<CommandLine<'_>>
     ensures none { IsNone result → IsNoCommand (words_of words.now) }
 {
     if let Some(command) = info(words) {
+        return Some(command);
+    }
+    if let Some(command) = dump(words) {
         return Some(command);
     }
     if let Some(command) = check(words) {

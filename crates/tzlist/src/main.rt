@@ -25,7 +25,7 @@ fn main(rt: HostRuntime) -> ExitCode {
     };
     let mut files = RealFiles::new(&rt);
     let mut sink = RealSink::new(&rt);
-    match run_plain(rt.alloc(), words.as_slice(), &mut files, &mut sink) {
+    match run_plain(&rt, rt.alloc(), words.as_slice(), &mut files, &mut sink) {
         Plain::Done(status) => ExitCode::from(status.code()),
         Plain::Shared => ExitCode::from(Status::Usage.code()),
     }

@@ -18,6 +18,10 @@ returns-in-Ok-range_line c =
     let fits : FitsSigned w64 c.args.instant = c.ranges.instant in
     let db = c.in-Ok.db in
     let named = sym c.in-Some.ensures in
-    let low = place_within c.args.text.now c.args.name.now db c.in-Some.place c.in-Ok.ensures.ok named in
+    let low = place_within c.args.name.now db c.in-Some.place c.in-Ok.ensures.sound named in
     let inside = (simp to_z-of_z at c.in-Some-info_uncounted.ensures.in_range).0 (search rules) in
     found_line c.args.text.now c.args.name.now c.args.instant c.in-Ok-range_line.line.items db c.in-Some.place c.in-Ok-compile.zone c.in-Some-info_uncounted.range c.in-Ok.ensures.ok named low c.in-Ok-compile.ensures inside (simp to_z-of_z at c.in-Some-info_uncounted.ensures.range) c.in-Ok-range_line.ensures
+
+pub compile-requires-clause-known : goal.compile-requires-clause-known
+compile-requires-clause-known c =
+    place_within c.args.name.now c.in-Ok.db c.in-Some.place c.in-Ok.ensures.sound (sym c.in-Some.ensures)

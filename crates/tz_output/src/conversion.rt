@@ -1,6 +1,7 @@
+//! The conversions between the system clock and those of UTC, TAI and GPS, and their words.
 ghost use Rattle.std.specs.Prelude.{◌≡◌, ◌≢◌, IsNone, IfSome};
-ghost use Rattle.tz_cli.specs.Conversion.{conversion_word};
-ghost use Rattle.tz_cli.specs.declared.conversion.Conversion.{Conversion};
+ghost use Rattle.tz_output.specs.Conversion.{conversion_word};
+ghost use Rattle.tz_output.specs.declared.conversion.Conversion.{Conversion};
 
 /// A conversion from a count of one clock to that of another. `UtcInfo` tells of a UTC count what there is to know.
 #[derive(Clone, Copy, Debug, PartialEq, Eq, Hash)]

@@ -1,0 +1,7 @@
+use Rattle.std.proofs.Common.{◌≡◌, ◌++◌, take}
+use Rattle.std.specs.List.{flat_map}
+use Rattle.tz_cli.specs.Line.{range_line}
+use Rattle.tz_cli.proofs.dump.put_ranges.Given as goal
+
+abbrev pub invariant-loop-range : goal.invariant-loop-range
+invariant-loop-range l = l.out.items ≡ l.initial.out.items ++ flat_map range_line (take l.range-index l.ranges)

@@ -1,0 +1,30 @@
+-- What a command prints where it isn't refused.
+use Rattle.std.specs.Prelude.{ℕ, Bool, true, false, List, Result, Ok, Err, Vec}
+use Rattle.std.specs.declared.alloc.Global.{Global}
+use Rattle.tz_cli.specs.Dumping.{compiled_texts}
+use Rattle.tz_cli.specs.Refusal.{Refuses}
+use Rattle.tz_cli.specs.declared.output.Output.{Output}
+use Rattle.tz_cli.specs.declared.output.Output.TheVariants as outputs
+use Rattle.tz_cli.specs.declared.refusal.Refusal.{Refusal}
+use Rattle.tz_cli.specs.declared.status.Status.{Status}
+use Rattle.tz_cli.specs.declared.status.Status.TheVariants as statuses
+
+-- all that is printed
+abbrev pub output_text : Output → List ℕ
+output_text (outputs.Line line) = line.items
+output_text (outputs.Zones dump) = compiled_texts dump.from dump.to dump.zones.items
+
+-- it is made piece by piece while it is printed
+abbrev pub is_in_pieces : Output → Bool
+is_in_pieces (outputs.Line line) = false
+is_in_pieces (outputs.Zones dump) = true
+
+-- What a command comes to, an output or a refusal, is one of these answers.
+abbrev pub GivesOutput : (Status → List ℕ → Type 0) → Result Output Refusal → Type 0
+GivesOutput answers (Ok output) = answers statuses.Ok (output_text output)
+GivesOutput answers (Err refusal) = Refuses answers refusal
+
+-- a line that was made whole, or its refusal
+abbrev pub as_output : Result (Vec ℕ Global) Refusal → Result Output Refusal
+as_output (Ok line) = Ok (outputs.Line line)
+as_output (Err refusal) = Err refusal

@@ -1,0 +1,4 @@
+pub mod Range
+pub mod LocalInfo
+pub mod LeapInfo
+pub mod Conversion
