@@ -22,7 +22,7 @@ use Rattle.tz_specs.specs.Whole.{is_told_before, IsLeast}
 use Rattle.tz_specs.specs.LeapText.{leap_fault, leap_fault_where, repeated_leap, repeated_expiry, early_expiry, leap_faults, first_moment, leap_contents_of, ReadsLeaps, RefusesWholeLeaps, RefusesLeaps}
 use Rattle.tz_specs.specs.LeapText as texts
 use Rattle.tz_specs.proofs.AscendingLemmas.{first_or_later, is_first, is_later, never_in_none}
-use Rattle.tz_specs.proofs.SoFarLemmas.{none_first, none_second}
+use Rattle.tz_specs.proofs.ListLemmas.{none_first, none_second}
 use Rattle.tz_specs.proofs.LeapTextLemmas.{LinesRise, leap_line, expiry_line, text_good}
 use Rattle.tz_lines.specs.declared.leap_contents.WrittenLeap.{WrittenLeap}
 use Rattle.tz_lines.specs.declared.leap_contents.WrittenExpiry.{WrittenExpiry}

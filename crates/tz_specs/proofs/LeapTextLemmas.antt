@@ -28,7 +28,7 @@ use Rattle.tz_specs.specs.LeapLine.{LeapRecord, SecondRecord, ExpiryRecord, Leap
 use Rattle.tz_specs.specs.LeapText.{WrittenLeap, WrittenExpiry, LeapContents, no_leap_contents, with_leap_record, leap_fault, leap_contents_after, leap_contents_of, leap_fault_where, repeated_leap, repeated_expiry, early_expiry, leap_faults, first_moment, ReadsLeaps, RefusesWholeLeaps, RefusesLeaps}
 use Rattle.tz_specs.proofs.AscendingLemmas.{both_hold, first_or_later, is_first, is_later, never_in_none}
 use Rattle.tz_specs.proofs.TextLemmas.{least_is_one, none_is_least}
-use Rattle.tz_specs.proofs.SoFarLemmas.{none_first}
+use Rattle.tz_specs.proofs.ListLemmas.{none_first}
 use Rattle.tz_specs.proofs.FaultOrder.{least_exists}
 use Rattle.tz_specs.proofs.LeapLemmas.{above_first, ascends_later, date_at, place_of}
 

@@ -25,7 +25,6 @@ pub mod Sameness
 pub mod TextLemmas
 pub mod AscendingLemmas
 pub mod SameDatabase
-pub mod SoFarLemmas
 pub mod FaultOrder
 pub mod LeapTextLemmas
 pub mod LeapDates

@@ -216,3 +216,12 @@ pub find-none : {X : Type 0} (test : X → Bool) (xs : List X) → ((x : X) → 
 find-none test [] none = refl
 find-none test (x ∷ xs) none =
     find-later test x xs (none x (inl refl)) ∙ find-none test xs (λ y has. none y (inr has))
+
+-- the first of appended lists has nothing where all have nothing, and so has the second
+pub none_first : {X : Type 0} (xs ys : List X) → (xs ++ ys) ≡ [] → xs ≡ []
+none_first [] ys h = refl
+none_first (x ∷ xs) ys h = cc
+
+pub none_second : {X : Type 0} (xs ys : List X) → (xs ++ ys) ≡ [] → ys ≡ []
+none_second [] ys h = h
+none_second (x ∷ xs) ys h = cc

@@ -7,7 +7,6 @@ use Rattle.tz_types.specs.declared.database.Db.{Db}
 use Rattle.tz_specs.specs.Contents.{Contents, contents_of}
 use Rattle.tz_specs.specs.Whole.{whole_faults, is_told_before, IsLeast}
 use Rattle.tz_specs.specs.Reads.{Reads, RefusesWhole, Refuses}
-use Rattle.tz_specs.specs.Unbuilt.{faults_so_far, RefusesWholeSoFar, RefusesSoFar}
 use Rattle.tz_specs.proofs.Sameness.{same_sets}
 
 same_line : (a b c d : ℕ) → IsTrue (nat_lt a b || ((a == b) && nat_le c d)) → IsTrue (nat_lt b a || ((b == a) && nat_le d c)) → (a ≡ b) × (c ≡ d)
@@ -60,15 +59,3 @@ read_isnt_refused text db fault reads (inr whole) =
     let sets = same_sets db.sets whole.sets (reads.sets ∙ ap (λ (it : Contents). it.sets) contents ∙ sym whole.sets_are) in
     let faults : whole_faults whole.sets whole.contents ≡ [] = rw (← sets, ← contents) reads.no_fault in
     none_is_least (whole_faults whole.sets whole.contents) fault faults whole.least
-
-whole_fault_so_far_is_one : (text : List ℕ) (a b : Fault) → RefusesWholeSoFar text a → RefusesWholeSoFar text b → a ≡ b
-whole_fault_so_far_is_one text a b first second =
-    let contents = same_contents text first.contents second.contents first.given second.given in
-    let faults : faults_so_far first.contents ≡ faults_so_far second.contents = rw contents refl in
-    least_is_one (faults_so_far first.contents) a b first.least (subst (λ it. IsLeast it b) (sym faults) second.least)
-
-pub one_fault_so_far : (text : List ℕ) (a b : Fault) → RefusesSoFar text a → RefusesSoFar text b → a ≡ b
-one_fault_so_far text a b (inl first) (inl second) = same_fault text a b first second
-one_fault_so_far text a b (inl first) (inr second) = absurd (ok_or_err text second.contents a second.given first)
-one_fault_so_far text a b (inr first) (inl second) = absurd (ok_or_err text first.contents b first.given second)
-one_fault_so_far text a b (inr first) (inr second) = whole_fault_so_far_is_one text a b first second

@@ -29,7 +29,6 @@ pub mod Record
 pub mod Contents
 pub mod Whole
 pub mod Reads
-pub mod Unbuilt
 pub mod LeapSecond
 pub mod LeapLine
 pub mod LeapText

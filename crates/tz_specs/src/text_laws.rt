@@ -3,7 +3,6 @@ ghost use Rattle.std.specs.Prelude.{◌≡◌, ℕ, List};
 ghost use Rattle.tz_types.specs.declared.fault.Fault.{Fault};
 ghost use Rattle.tz_types.specs.declared.database.Db.{Db};
 ghost use Rattle.tz_specs.specs.Reads.{Reads, Refuses};
-ghost use Rattle.tz_specs.specs.Unbuilt.{ReadsSoFar, RefusesSoFar};
 
 /// Two databases that a text is read as are one.
 pub fn at_most_one_database()
@@ -12,12 +11,10 @@ pub fn at_most_one_database()
 
 /// Two faults with which a text is refused are one.
 pub fn at_most_one_fault()
-    ensures whole { (text : List ℕ) (fault other : Fault) → Refuses text fault → Refuses text other → fault ≡ other }
-    ensures so_far { (text : List ℕ) (fault other : Fault) → RefusesSoFar text fault → RefusesSoFar text other → fault ≡ other }
+    ensures { (text : List ℕ) (fault other : Fault) → Refuses text fault → Refuses text other → fault ≡ other }
 {}
 
 /// A text that is read isn't refused.
 pub fn read_texts_are_not_refused()
-    ensures whole { (text : List ℕ) (db : Db) (fault : Fault) → Reads text db → ¬ (Refuses text fault) }
-    ensures so_far { (text : List ℕ) (db : Db) (fault : Fault) → ReadsSoFar text db → ¬ (RefusesSoFar text fault) }
+    ensures { (text : List ℕ) (db : Db) (fault : Fault) → Reads text db → ¬ (Refuses text fault) }
 {}

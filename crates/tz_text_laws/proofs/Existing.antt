@@ -18,7 +18,7 @@ use Rattle.tz_specs.specs.Written.{WrittenSet, WrittenZone, WrittenLink, set_nam
 use Rattle.tz_specs.specs.Contents.{Contents, contents_of}
 use Rattle.tz_specs.specs.Whole.{unknown_rule, missing_continuation, missing_target, zone_name, names_given, repeated_name, late_lines, whole_faults, is_told_before, IsLeast}
 use Rattle.tz_specs.specs.Reads.{version_of, Reads, RefusesWhole, Refuses}
-use Rattle.tz_specs.proofs.SoFarLemmas.{none_first, none_second}
+use Rattle.tz_specs.proofs.ListLemmas.{none_first, none_second}
 use Rattle.tz_specs.proofs.AscendingLemmas.{is_first, is_later}
 use Rattle.tz_text_laws.proofs.GoodContents.{GoodContents, begins, text_good}
 use Rattle.tz_text_laws.proofs.Making.{make_sets, map_map, map_length}

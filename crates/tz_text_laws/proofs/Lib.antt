@@ -9,4 +9,3 @@ pub mod Making
 pub mod Sorting
 pub mod Zones
 pub mod Existing
-pub mod FaultsSoFar

@@ -18,7 +18,7 @@ use Rattle.tz_specs.specs.Value.{is_exactly}
 use Rattle.tz_specs.specs.Written.{WrittenLine, WrittenZone, WrittenLink, set_names, written_line, written_zone, written_link}
 use Rattle.tz_specs.specs.Contents.{Contents}
 use Rattle.tz_specs.specs.Whole.{fault_where, following_in, unknown_rule, zone_name, repeated_name, is_zone_name, reached, zone_of_link, missing_target}
-use Rattle.tz_specs.proofs.SoFarLemmas.{none_first, none_second}
+use Rattle.tz_specs.proofs.ListLemmas.{none_first, none_second}
 use Rattle.tz_text_laws.proofs.Choices.{bind_some, only_some, some_same}
 use Rattle.tz_text_laws.proofs.GoodContents.{GoodLines, GoodZone, GoodZones, begins, has_line}
 use Rattle.tz_text_laws.proofs.Making.{make_line}

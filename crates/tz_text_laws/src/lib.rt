@@ -6,14 +6,8 @@ ghost use Rattle.std.specs.Prelude.{◌≡◌, ℕ, List, ◌⊎◌};
 ghost use Rattle.tz_types.specs.declared.fault.Fault.{Fault};
 ghost use Rattle.tz_types.specs.declared.database.Db.{Db};
 ghost use Rattle.tz_specs.specs.Reads.{Reads, Refuses};
-ghost use Rattle.tz_specs.specs.Unbuilt.{RefusesSoFar};
 
 /// Each text is read as a database, or refused with a fault.
 pub fn each_text_is_read_or_refused()
     ensures { (text : List ℕ) → ((db : Db) × Reads text db) ⊎ ((fault : Fault) × Refuses text fault) }
-{}
-
-/// A fault that is told so far, with another cause than 0, is the one with which the text is refused.
-pub fn faults_so_far_stand()
-    ensures { (text : List ℕ) (fault : Fault) → RefusesSoFar text fault → ¬ (fault.cause ≡ 0) → Refuses text fault }
 {}

@@ -4,7 +4,6 @@ use Rattle.tz_types.specs.declared.cause.Cause.{Cause}
 use Rattle.tz_types.specs.declared.cause.Cause.TheVariants as causes
 
 abbrev pub cause_number : Cause → ℕ
-cause_number causes.Unbuilt = 0
 cause_number causes.LongLine = 1
 cause_number causes.Nul = 2
 cause_number causes.OpenQuote = 3

@@ -4,8 +4,6 @@ ghost use Rattle.tz_types.specs.Cause.{cause_number};
 /// Why a text is refused.
 #[derive(Clone, Copy, Debug, PartialEq, Eq, Hash)]
 pub enum Cause {
-    /// A form that isn't built yet.
-    Unbuilt,
     /// The line is longer than 2,048 bytes with its newline.
     LongLine,
     /// The line has a NUL byte.
@@ -66,7 +64,6 @@ impl Cause {
         ensures { result ≡ cause_number self }
     {
         match self {
-            Cause::Unbuilt => 0,
             Cause::LongLine => 1,
             Cause::Nul => 2,
             Cause::OpenQuote => 3,
