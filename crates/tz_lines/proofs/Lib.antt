@@ -10,4 +10,3 @@ pub mod ZoneTextLines
 pub mod LeapReading
 pub mod LeapDates
 pub mod LeapTables
-pub mod ReadTexts

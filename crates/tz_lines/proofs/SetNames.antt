@@ -19,7 +19,7 @@ use Rattle.tz_specs.specs.Value.{is_exactly}
 use Rattle.tz_specs.specs.Written.{written_rules, written_line, written_zone}
 use Rattle.tz_rules.specs.Continued.{is_named_by}
 use Rattle.tz_rules.proofs.FirstLines.{same_name}
-use Rattle.tz_lines.specs.Names.{with_name, AreBegun}
+use Rattle.tz_lines.specs.SetNames.{with_name, AreBegun}
 
 -- the place of a name, when one more came
 

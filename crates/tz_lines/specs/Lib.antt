@@ -1,5 +1,5 @@
 pub mod LineOutcome
-pub mod Names
+pub mod SetNames
 pub mod Gathered
 pub mod Following
 pub mod Gathering

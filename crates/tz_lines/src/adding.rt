@@ -9,12 +9,12 @@ ghost use Rattle.tz_lines.specs.Following.{may_follow};
 
 use crate::contents::Gathered;
 use crate::last_zone::{continue_last, zone_of};
-use crate::names::Names;
 use crate::rule_sets::add_rule;
+use crate::set_names::SetNames;
 use crate::zone_line::zone_line;
 use std::alloc::Global;
 use std::mem;
-use tz_records::{Entry, EntryLine};
+use tz_records::{Entry, EntryLine, SetName};
 use tz_types::{Items, Label, NoMemory, Rule, ZoneLine};
 
 impl Gathered {
@@ -25,15 +25,15 @@ impl Gathered {
     {
         Gathered {
             sets: Items::new(alloc),
-            names: Names::new(alloc),
+            names: SetNames::new(alloc),
             zones: Items::new(alloc),
             links: Items::new(alloc),
         }
     }
 
-    fn add_rule(&mut self, alloc: Global, name: Label, rule: Rule) -> Result<(), NoMemory>
-        requires { IsTrue (may_follow (contents_gathered self.old) (RuleRecord name (written_rule rule))) }
-        ensures contents { OnOk result (contents_gathered self.new ≡ with_record (RuleRecord name (written_rule rule)) (contents_gathered self.old)) }
+    fn add_rule(&mut self, alloc: Global, name: SetName<'_>, rule: Rule) -> Result<(), NoMemory>
+        requires { IsTrue (may_follow (contents_gathered self.old) (RuleRecord name.bytes.now (written_rule rule))) }
+        ensures contents { OnOk result (contents_gathered self.new ≡ with_record (RuleRecord name.entry.bytes.now (written_rule rule)) (contents_gathered self.old)) }
         ensures names { length self.new.names.labels.items ≡ length self.old.names.labels.items }
     {
         // `Items` lends none of its elements to be changed, so the whole list is taken out and put back.
@@ -44,30 +44,35 @@ impl Gathered {
     }
 
     /// The line of a zone that an entry says. The name of its rule set is among the names from then on.
-    fn zone_line(&mut self, entry: EntryLine) -> Result<ZoneLine, NoMemory>
+    fn zone_line(&mut self, entry: EntryLine<'_>) -> Result<ZoneLine, NoMemory>
         requires { length self.old.names.labels.items < 2 ^ 32 }
         ensures contents { contents_gathered self.new ≡ contents_gathered self.old }
-        ensures line { IfOk result (λ it. written_line self.new.names.labels.items it ≡ written_entry_line entry) }
+        ensures line { IfOk result (λ it. written_line self.new.names.labels.items it ≡ written_entry_line entry.entry) }
         ensures named { IfOk result (λ it. IsTrue (is_named_by (length self.new.names.labels.items) it.rules)) }
         ensures names { length self.new.names.labels.items ≤ length self.old.names.labels.items + 1 }
     {
         zone_line(&mut self.names, entry)
     }
 
-    fn begin_zone(&mut self, alloc: Global, name: Label, entry: EntryLine) -> Result<(), NoMemory>
+    fn begin_zone(
+        &mut self,
+        alloc: Global,
+        name: Label,
+        entry: EntryLine<'_>,
+    ) -> Result<(), NoMemory>
         requires room { length self.old.names.labels.items < 2 ^ 32 }
         requires may { IsTrue (may_follow (contents_gathered self.old) (ZoneRecord name (written_entry_line entry))) }
-        ensures contents { OnOk result (contents_gathered self.new ≡ with_record (ZoneRecord name (written_entry_line entry)) (contents_gathered self.old)) }
+        ensures contents { OnOk result (contents_gathered self.new ≡ with_record (ZoneRecord name (written_entry_line entry.entry)) (contents_gathered self.old)) }
         ensures names { length self.new.names.labels.items ≤ length self.old.names.labels.items + 1 }
     {
         let line = self.zone_line(entry)?;
         self.zones.push(zone_of(alloc, name, line)?)
     }
 
-    fn continue_zone(&mut self, alloc: Global, entry: EntryLine) -> Result<(), NoMemory>
+    fn continue_zone(&mut self, alloc: Global, entry: EntryLine<'_>) -> Result<(), NoMemory>
         requires room { length self.old.names.labels.items < 2 ^ 32 }
         requires may { IsTrue (may_follow (contents_gathered self.old) (Continuation (written_entry_line entry))) }
-        ensures contents { OnOk result (contents_gathered self.new ≡ with_record (Continuation (written_entry_line entry)) (contents_gathered self.old)) }
+        ensures contents { OnOk result (contents_gathered self.new ≡ with_record (Continuation (written_entry_line entry.entry)) (contents_gathered self.old)) }
         ensures names { length self.new.names.labels.items ≤ length self.old.names.labels.items + 1 }
     {
         let line = self.zone_line(entry)?;
@@ -78,10 +83,10 @@ impl Gathered {
     }
 
     /// Adds what a line says. After `NoMemory` the text can't be read on.
-    pub fn add(&mut self, alloc: Global, entry: Entry) -> Result<(), NoMemory>
+    pub fn add(&mut self, alloc: Global, entry: Entry<'_>) -> Result<(), NoMemory>
         requires room { length self.old.names.labels.items < 2 ^ 32 }
         requires may { IsTrue (may_follow (contents_gathered self.old) (written_entry entry)) }
-        ensures contents { OnOk result (contents_gathered self.new ≡ with_record (written_entry entry) (contents_gathered self.old)) }
+        ensures contents { OnOk result (contents_gathered self.new ≡ with_record (written_entry entry.entry) (contents_gathered self.old)) }
         ensures names { length self.new.names.labels.items ≤ length self.old.names.labels.items + 1 }
     {
         match entry {

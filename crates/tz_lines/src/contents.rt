@@ -4,7 +4,7 @@ ghost use Rattle.tz_types.specs.Order.{ascends, name_before};
 ghost use Rattle.tz_types.specs.Limit.{most_sets, most_zones, most_links};
 ghost use Rattle.tz_rules.specs.Continued.{are_continued, is_named_by};
 
-use crate::names::Names;
+use crate::set_names::SetNames;
 use tz_types::{Items, Link, RuleSet, Zone};
 
 /// What the lines of a text have given so far: rule sets in the order of their names, and zones and links in the order
@@ -12,7 +12,7 @@ use tz_types::{Items, Link, RuleSet, Zone};
 #[derive(Debug, Drop)]
 pub struct Gathered {
     pub sets: Items<RuleSet>,
-    pub names: Names,
+    pub names: SetNames,
     pub zones: Items<Zone>,
     pub links: Items<Link>,
     pub ghost sets_ascend: { IsTrue (ascends name_before (map (λ set. set.name) sets)) },

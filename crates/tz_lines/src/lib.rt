@@ -20,11 +20,11 @@ mod leap_reading;
 mod limits;
 mod line;
 mod locating;
-mod names;
 mod parts;
 mod reading;
 mod record_line;
 mod rule_sets;
+mod set_names;
 mod version;
 mod zone_line;
 

@@ -15,7 +15,7 @@ use tz_types::Cause;
 
 /// What the fields of a line say that isn't blank, or their least cause.
 #[tactic(auto, using(crate::proofs::ZoneTextLines::no_kind, crate::proofs::ZoneTextLines::other_count, crate::proofs::ZoneTextLines::counted_fields, crate::proofs::ZoneTextLines::few_counted))]
-fn entry(fields: &Fields<'_>, number: u32, gathered: &Gathered) -> Result<Entry, Cause>
+fn entry<'a>(fields: &Fields<'a>, number: u32, gathered: &Gathered) -> Result<Entry<'a>, Cause>
     requires some { 0 < fields.now.count }
     requires whole { fields.now.count ≤ most_kept → length fields.now.first ≡ fields.now.count }
     ensures { (all : List (List ℕ)) → kept_of all ≡ fields.now →
@@ -31,8 +31,8 @@ fn entry(fields: &Fields<'_>, number: u32, gathered: &Gathered) -> Result<Entry,
 }
 
 /// What is said by a line that isn't one too many.
-fn unless_late(entry: Option<Entry>, number: u32) -> Result<Option<Entry>, Cause>
-    ensures { result ≡ unless_late (nat_lt 100_000 number) entry }
+fn unless_late<'a>(entry: Option<Entry<'a>>, number: u32) -> Result<Option<Entry<'a>>, Cause>
+    ensures { result ≡ unless_late (nat_lt 100_000 number) entry.entry }
 {
     if number > 100_000 {
         return Err(Cause::Limit);
@@ -41,7 +41,11 @@ fn unless_late(entry: Option<Entry>, number: u32) -> Result<Option<Entry>, Cause
 }
 
 /// What the fields of a line say: an entry, nothing where there are none, or their least cause.
-fn said(fields: &Fields<'_>, number: u32, gathered: &Gathered) -> Result<Option<Entry>, Cause>
+fn said<'a>(
+    fields: &Fields<'a>,
+    number: u32,
+    gathered: &Gathered,
+) -> Result<Option<Entry<'a>>, Cause>
     requires { fields.now.count ≤ most_kept → length fields.now.first ≡ fields.now.count }
     ensures { (all : List (List ℕ)) → kept_of all ≡ fields.now → Means result (fields_say (contents_gathered gathered.now) number all) }
 {
@@ -56,12 +60,14 @@ fn said(fields: &Fields<'_>, number: u32, gathered: &Gathered) -> Result<Option<
 
 /// What a line says, by its number and by what the lines before it gave: an entry, nothing where it is blank, or its
 /// least cause.
-pub fn read_line(
-    line: &[u8],
-    joined: &mut Joined,
+///
+/// `joined` keeps the bytes of fields that join pieces; what it had is gone.
+pub fn read_line<'a>(
+    line: &'a [u8],
+    joined: &'a mut Joined,
     number: u32,
     gathered: &Gathered,
-) -> Result<Option<Entry>, Cause>
+) -> Result<Option<Entry<'a>>, Cause>
     ensures ok { IfOk result (λ said. line_says (contents_gathered gathered.now) number line.now ≡ Ok (option_map written_entry said)) }
     ensures err { IfErr result (λ cause. line_says (contents_gathered gathered.now) number line.now ≡ Err cause) }
 {

@@ -31,6 +31,5 @@ pub fn read_zones(alloc: Global, text: &[u8]) -> Result<Db, ReadError>
     ensures refused { IfErr result (λ e. MeansFault e text.now) }
 {
     let gathered = gather(alloc, text)?;
-    let db = build(alloc, gathered.into_parts(version(text)))?;
-    Ok(db)
+    Ok(build(alloc, gathered.into_parts(version(text)))?)
 }

@@ -13,12 +13,12 @@ use tz_text::Fields;
 use tz_types::Cause;
 
 /// The record of a kind that has so many fields, or the least cause of its fields.
-pub fn record_entry(
+pub fn record_entry<'a>(
     kind: Kind,
-    fields: &Fields<'_>,
+    fields: &Fields<'a>,
     number: u32,
     gathered: &Gathered,
-) -> Result<Entry, Cause>
+) -> Result<Entry<'a>, Cause>
     requires count { has_count (kind_told kind) fields.now.count ≡ true }
     requires whole { length fields.now.first ≡ fields.now.count }
     ensures { Tells written_entry (record_causes (contents_gathered gathered.now) (kind_told kind) fields.now.first) (record_of (kind_told kind) number fields.now.first) result }

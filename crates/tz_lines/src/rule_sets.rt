@@ -12,7 +12,8 @@ ghost use Rattle.tz_rules.specs.NamePlace.{name_place};
 ghost use Rattle.tz_lines.specs.Following.{are_before};
 
 use std::alloc::Global;
-use tz_types::{Items, Label, NoMemory, Rule, RuleSet};
+use tz_records::SetName;
+use tz_types::{Items, NoMemory, Rule, RuleSet};
 
 /// The place of the set of that name, or else the place where it would stand.
 pub fn set_place(sets: &[RuleSet], name: &[u8]) -> Result<usize, usize>
@@ -34,27 +35,30 @@ fn push_rule(set: &mut RuleSet, rule: Rule) -> Result<(), NoMemory>
 }
 
 /// A set of one rule.
-fn set_of(alloc: Global, name: Label, rule: Rule) -> Result<RuleSet, NoMemory>
+fn set_of(alloc: Global, name: SetName<'_>, rule: Rule) -> Result<RuleSet, NoMemory>
     ensures rules { IfOk result (λ (set : DeclaredSet). set.rules ≡ rule ∷ []) }
-    ensures name { IfOk result (λ (set : DeclaredSet). set.name ≡ name) }
+    ensures name { IfOk result (λ (set : DeclaredSet). set.name ≡ name.entry.bytes.now) }
 {
     let mut rules = Items::new(alloc);
     rules.push(rule)?;
-    Ok(RuleSet { name, rules })
+    Ok(RuleSet {
+        name: name.label(),
+        rules,
+    })
 }
 
 /// Adds a rule behind those of its name, or as the first of them.
 pub fn add_rule(
     alloc: Global,
     sets: &mut Vec<RuleSet>,
-    name: Label,
+    name: SetName<'_>,
     rule: Rule,
 ) -> Result<(), NoMemory>
     requires ascending { IsTrue (ascends name_before (set_names sets.old.items)) }
     requires few { length sets.old.items ≤ most_sets }
-    requires room { is_full_set (map written_set sets.old.items) (find (is_set_named name) (map written_set sets.old.items)) ≡ false }
+    requires room { is_full_set (map written_set sets.old.items) (find (is_set_named name.bytes.now) (map written_set sets.old.items)) ≡ false }
     requires later { IsTrue (are_before rule.line (map written_set sets.old.items)) }
-    ensures sets { OnOk result (map written_set sets.new.items ≡ with_rule name (written_rule rule) (map written_set sets.old.items)) }
+    ensures sets { OnOk result (map written_set sets.new.items ≡ with_rule name.entry.bytes.now (written_rule rule) (map written_set sets.old.items)) }
     ensures ascending { OnOk result (IsTrue (ascends name_before (set_names sets.new.items))) }
     ensures few { OnOk result (length sets.new.items ≤ most_sets) }
 {

@@ -10,7 +10,7 @@ use Rattle.tz_records.specs.declared.entry.Entry.TheVariants as entries
 abbrev pub written_entry_rules : EntryRules → WrittenRules
 written_entry_rules rules.Plain = NoRules
 written_entry_rules (rules.Fixed save daylight) = FixedSave save daylight
-written_entry_rules (rules.Named name) = RulesNamed name
+written_entry_rules (rules.Named name) = RulesNamed name.bytes.now
 
 abbrev pub written_entry_line : EntryLine → WrittenLine
 written_entry_line line =
@@ -23,7 +23,7 @@ written_entry_line line =
     }
 
 abbrev pub written_entry : Entry → Record
-written_entry (entries.Rule name rule) = RuleRecord name (written_rule rule)
+written_entry (entries.Rule name rule) = RuleRecord name.bytes.now (written_rule rule)
 written_entry (entries.Zone name line) = ZoneRecord name (written_entry_line line)
 written_entry (entries.Continuation line) = Continuation (written_entry_line line)
 written_entry (entries.Link link) = LinkRecord (written_link link)

@@ -3,21 +3,22 @@ ghost use Rattle.tz_types.specs.Amount.{IsShift};
 ghost use Rattle.tz_types.specs.Format.{is_format};
 ghost use Rattle.tz_records.specs.FixedSave.{is_fixed_save};
 
+use crate::set_name::SetName;
 use tz_types::{Format, Label, Link, Rule, Until};
 
 /// What the save of a line follows: nothing, a fixed amount of seconds, or the rules of a name.
-#[derive(Debug, Drop)]
-pub enum EntryRules {
+#[derive(Clone, Copy, Debug)]
+pub enum EntryRules<'a> {
     Plain,
     Fixed { save: i64, daylight: bool },
-    Named(Label),
+    Named(SetName<'a>),
 }
 
 /// A line of a zone, whose rule set isn't looked up yet.
 #[derive(Debug, Drop)]
-pub struct EntryLine {
+pub struct EntryLine<'a> {
     pub stdoff: i64,
-    pub rules: EntryRules,
+    pub rules: EntryRules<'a>,
     pub format: Format,
     pub until: Option<Until>,
     /// Where the line stands in its text, counted from 1.
@@ -29,9 +30,9 @@ pub struct EntryLine {
 
 /// What a line that isn't blank says. The place of a link's zone is 0.
 #[derive(Debug, Drop)]
-pub enum Entry {
-    Rule { name: Label, rule: Rule },
-    Zone { name: Label, line: EntryLine },
-    Continuation(EntryLine),
+pub enum Entry<'a> {
+    Rule { name: SetName<'a>, rule: Rule },
+    Zone { name: Label, line: EntryLine<'a> },
+    Continuation(EntryLine<'a>),
     Link(Link),
 }

@@ -10,7 +10,7 @@ use tz_text::Fields;
 use tz_types::{Cause, Link};
 
 /// The link of three fields, which may be one too many, or their least cause.
-pub fn link_entry(fields: &Fields<'_>, number: u32, too_many: bool) -> Result<Entry, Cause>
+pub fn link_entry<'a>(fields: &Fields<'a>, number: u32, too_many: bool) -> Result<Entry<'a>, Cause>
     requires { fields.now.count ≡ 3 }
     ensures { Tells written_entry (link_causes too_many fields.now.first) (record_of LinkLine number fields.now.first) result }
 {

@@ -9,8 +9,9 @@ ghost use Rattle.tz_records.specs.Tells.{Tells};
 
 use crate::entry::Entry;
 use crate::recurrence::Recurrence;
+use crate::set_name::SetName;
 use crate::values::{
-    are_visible, is_bad_name, is_beyond, label, letter_bytes, letters, save, starts_amount,
+    are_visible, is_bad_name, is_beyond, letter_bytes, letters, save, starts_amount,
 };
 use tz_text::Fields;
 use tz_types::{Cause, Letters, Rule};
@@ -33,7 +34,7 @@ fn rule(recurrence: Recurrence, save: i64, daylight: bool, letters: Letters, lin
 
 /// The rule of ten fields, which may be one too many, or their least cause.
 #[tactic(auto, using(crate::proofs::RuleLines::recurrence_refused, crate::proofs::RuleLines::recurrence_told), unfolding(crate::specs::RuleFields::setting_causes))]
-pub fn rule_entry(fields: &Fields<'_>, number: u32, too_many: bool) -> Result<Entry, Cause>
+pub fn rule_entry<'a>(fields: &Fields<'a>, number: u32, too_many: bool) -> Result<Entry<'a>, Cause>
     requires { fields.now.count ≡ 10 }
     ensures { Tells written_entry (rule_causes too_many fields.now.first) (record_of RuleLine number fields.now.first) result }
 {
@@ -59,7 +60,7 @@ pub fn rule_entry(fields: &Fields<'_>, number: u32, too_many: bool) -> Result<En
         return Err(Cause::Limit);
     }
     Ok(Entry::Rule {
-        name: label(name),
+        name: SetName::of_field(name),
         rule: rule(recurrence, save, daylight, letters(bytes), number),
     })
 }

@@ -6,7 +6,8 @@ ghost use Rattle.tz_records.specs.FixedSave.{is_fixed_save};
 ghost use Rattle.tz_records.specs.RulesField.{rules_told, has_shift, is_badly_named, is_long_named};
 
 use crate::entry::EntryRules;
-use crate::values::{is_bad_name, is_dash, is_long_name, label, save, starts_amount};
+use crate::set_name::SetName;
+use crate::values::{is_bad_name, is_dash, is_long_name, save, starts_amount};
 
 /// What the save of a line follows, where a name may be bad or too long.
 #[derive(Clone, Copy)]
@@ -33,7 +34,7 @@ pub fn rules_field(field: &[u8]) -> Option<RulesField<'_>>
     Some(RulesField::Fixed { save, daylight })
 }
 
-impl RulesField<'_> {
+impl<'a> RulesField<'a> {
     /// Whether the name of a rule set has no bytes, or one that isn't visible.
     pub fn is_badly_named(&self) -> bool
         ensures { result ≡ is_badly_named self.now }
@@ -55,7 +56,7 @@ impl RulesField<'_> {
     }
 
     /// What the save of a line follows.
-    pub fn rules(self) -> EntryRules
+    pub fn rules(self) -> EntryRules<'a>
         requires shift { IsTrue (has_shift self) }
         requires good { is_badly_named self ≡ false }
         requires short { is_long_named self ≡ false }
@@ -65,7 +66,7 @@ impl RulesField<'_> {
         match self {
             RulesField::Plain => EntryRules::Plain,
             RulesField::Fixed { save, daylight } => EntryRules::Fixed { save, daylight },
-            RulesField::Named(name) => EntryRules::Named(label(name)),
+            RulesField::Named(name) => EntryRules::Named(SetName::of_field(name)),
         }
     }
 }

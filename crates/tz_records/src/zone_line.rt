@@ -94,17 +94,17 @@ fn until(fields: &Fields<'_>, first: usize) -> Result<Option<Until>, Cause>
 }
 
 /// A line of a zone that keeps this up to the UNTIL.
-fn entry_line(
+fn entry_line<'a>(
     stdoff: i64,
-    rules: EntryRules,
+    rules: EntryRules<'a>,
     format: Format,
     until: Option<Until>,
     line: u32,
-) -> EntryLine
+) -> EntryLine<'a>
     requires stdoff_in { IsShift stdoff }
     requires save_in { IsTrue (is_fixed_save rules) }
     requires format_in { IsTrue (is_format format) }
-    ensures { written_entry_line result ≡ line_with stdoff (written_entry_rules rules) format (option_map written_until until) line }
+    ensures { written_entry_line result ≡ line_with stdoff (written_entry_rules rules.entry) format (option_map written_until until) line }
 {
     EntryLine {
         stdoff,
@@ -124,13 +124,13 @@ fn is_beyond(rules: &RulesField<'_>, too_many: bool) -> bool
 
 /// A line of a zone, which may have a bad name or be one too many, or the least cause of its fields.
 #[tactic(auto, using(crate::proofs::ZoneLines::end_refused, crate::proofs::ZoneLines::end_told), unfolding(crate::specs::LineFields::keeping_causes))]
-pub fn zone_line(
-    fields: &Fields<'_>,
+pub fn zone_line<'a>(
+    fields: &Fields<'a>,
     first: usize,
     number: u32,
     badly_named: bool,
     too_many: bool,
-) -> Result<EntryLine, Cause>
+) -> Result<EntryLine<'a>, Cause>
     requires few { fields.now.count ≤ most_kept }
     requires whole { length fields.now.first ≡ fields.now.count }
     requires within { first ≤ 2 }

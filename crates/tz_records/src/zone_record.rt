@@ -12,7 +12,7 @@ use tz_text::Fields;
 use tz_types::Cause;
 
 /// The line that begins a zone, which may be one too many, or the least cause of its fields.
-pub fn zone_entry(fields: &Fields<'_>, number: u32, too_many: bool) -> Result<Entry, Cause>
+pub fn zone_entry<'a>(fields: &Fields<'a>, number: u32, too_many: bool) -> Result<Entry<'a>, Cause>
     requires low { 5 ≤ fields.now.count }
     requires high { fields.now.count ≤ 9 }
     requires whole { length fields.now.first ≡ fields.now.count }
@@ -35,7 +35,11 @@ pub fn zone_entry(fields: &Fields<'_>, number: u32, too_many: bool) -> Result<En
 }
 
 /// The line that continues a zone, which may be one too many, or the least cause of its fields.
-pub fn continuation_entry(fields: &Fields<'_>, number: u32, too_many: bool) -> Result<Entry, Cause>
+pub fn continuation_entry<'a>(
+    fields: &Fields<'a>,
+    number: u32,
+    too_many: bool,
+) -> Result<Entry<'a>, Cause>
     requires high { fields.now.count ≤ 7 }
     requires whole { length fields.now.first ≡ fields.now.count }
     ensures { Tells written_entry (line_causes false too_many fields.now.first) (record_of ContinuationLine number fields.now.first) result }

@@ -1,5 +1,4 @@
-use Rattle.std.proofs.Common.{ap, sym, subst, arith}
-use Rattle.tz_records.specs.LeapRecord.{leap_fields_say, Means}
+use Rattle.std.proofs.Common.{arith}
 use Rattle.tz_records.proofs.KeptFields.{no_fields}
 use Rattle.tz_records.proofs.LeapLines.{blank_fields, told_fields, refused_fields}
 use Rattle.tz_records.proofs.leap_line.said.Goals as goal

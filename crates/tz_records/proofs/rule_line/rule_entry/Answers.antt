@@ -34,4 +34,4 @@ returns c =
     last_cause c.args.too_many false fields _ _ said (rw letters at c.if-bytes-gt8.false) within in
     let fits : FitsSigned w64 c.in-Some.save = search rules in
     let is = simp to_z-of_z at c.rule.ensures in
-    (none, rule_said c.args.number fields _ _ _ _ _ said (c.label.ensures ∙ c.get-name.ensures) (c.letters.ensures ∙ letters) is)
+    (none, rule_said c.args.number fields _ _ _ _ _ said (c.of_field.ensures ∙ c.get-name.ensures) (c.letters.ensures ∙ letters) is)

@@ -4,15 +4,16 @@ ghost use Rattle.std.specs.Ordering.{nat_cmp};
 ghost use Rattle.std.specs.Cmp.Lexicographic.{slice_cmp};
 ghost use Rattle.std.specs.BTreeMap.{get};
 ghost use Rattle.tz_specs.specs.Value.{is_exactly};
-ghost use Rattle.tz_lines.specs.Names.{with_name, AreBegun};
+ghost use Rattle.tz_lines.specs.SetNames.{with_name, AreBegun};
 
 use std::alloc::Global;
 use std::collections::BTreeMap;
+use tz_records::SetName;
 use tz_types::{Items, Label, NoMemory};
 
 /// Names, each once, in the order in which they came.
 #[derive(Debug, Drop)]
-pub struct Names {
+pub struct SetNames {
     labels: Vec<Label>,
     /// The place of each name among them.
     places: BTreeMap<Label, u32>,
@@ -21,12 +22,12 @@ pub struct Names {
     ghost placed: { (name : List ℕ) → get (slice_cmp nat_cmp) places name ≡ position (λ label. is_exactly label name) labels.items },
 }
 
-impl Names {
+impl SetNames {
     /// Before any name.
     pub fn new(alloc: Global) -> Self
         ensures { result.labels.items ≡ [] }
     {
-        Names {
+        SetNames {
             labels: Vec::new(alloc),
             places: BTreeMap::new(alloc),
             last: 0,
@@ -34,11 +35,11 @@ impl Names {
     }
 
     /// Whether the name that came last is this one.
-    fn came_last(&self, name: &Label) -> bool
+    fn came_last(&self, name: &[u8]) -> bool
         ensures { IsTrue result → slice_get self.now.labels.items self.now.last ≡ Some name.now }
     {
         match self.labels.get(self.last as usize) {
-            Some(label) => label == name,
+            Some(label) => label.as_bytes() == name,
             None => false,
         }
     }
@@ -61,28 +62,29 @@ impl Names {
     }
 
     /// The place of a name by a search. It is added where it is new.
-    fn search(&mut self, name: Label) -> Result<u32, NoMemory>
+    fn search(&mut self, name: SetName<'_>) -> Result<u32, NoMemory>
         requires { length self.old.labels.items < 2 ^ 32 }
-        ensures place { IfOk result (λ place. slice_get self.new.labels.items place ≡ Some name) }
-        ensures labels { OnOk result (self.new.labels.items ≡ with_name name self.old.labels.items) }
+        ensures place { IfOk result (λ place. slice_get self.new.labels.items place ≡ Some name.entry.bytes.now) }
+        ensures labels { OnOk result (self.new.labels.items ≡ with_name name.entry.bytes.now self.old.labels.items) }
         ensures begun { AreBegun self.old.labels.items self.new.labels.items }
         ensures few { length self.new.labels.items ≤ length self.old.labels.items + 1 }
     {
-        match self.places.get(&name) {
+        let label = name.label();
+        match self.places.get(&label) {
             Some(place) => Ok(*place),
-            None => self.add(name),
+            None => self.add(label),
         }
     }
 
     /// The place of a name, which is added where it is new.
-    pub fn place(&mut self, name: Label) -> Result<u32, NoMemory>
+    pub fn place(&mut self, name: SetName<'_>) -> Result<u32, NoMemory>
         requires { length self.old.labels.items < 2 ^ 32 }
-        ensures place { IfOk result (λ place. slice_get self.new.labels.items place ≡ Some name) }
-        ensures labels { OnOk result (self.new.labels.items ≡ with_name name self.old.labels.items) }
+        ensures place { IfOk result (λ place. slice_get self.new.labels.items place ≡ Some name.entry.bytes.now) }
+        ensures labels { OnOk result (self.new.labels.items ≡ with_name name.entry.bytes.now self.old.labels.items) }
         ensures begun { AreBegun self.old.labels.items self.new.labels.items }
         ensures few { length self.new.labels.items ≤ length self.old.labels.items + 1 }
     {
-        if self.came_last(&name) {
+        if self.came_last(name.as_bytes()) {
             return Ok(self.last);
         }
         let place = self.search(name)?;
@@ -94,7 +96,7 @@ impl Names {
     pub fn into_labels(self) -> Items<Label>
         ensures { result ≡ self.labels.items }
     {
-        let Names { labels, .. } = self;
+        let SetNames { labels, .. } = self;
         Items::from_vec(labels)
     }
 }

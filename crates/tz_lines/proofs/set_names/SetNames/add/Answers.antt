@@ -3,7 +3,7 @@ use Rattle.std.specs.Ordering.{nat_cmp}
 use Rattle.std.specs.Cmp.Lexicographic.{slice_cmp}
 use Rattle.std.specs.BTreeMap.{get}
 use Rattle.tz_lines.proofs.SetNames.{indexed, pushed_items}
-use Rattle.tz_lines.proofs.names.Names.add.Goals as goal
+use Rattle.tz_lines.proofs.set_names.SetNames.add.Goals as goal
 
 pub invariant_of-self-2 : goal.invariant_of-self-2
 invariant_of-self-2 c =
