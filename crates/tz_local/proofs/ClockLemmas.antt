@@ -1,6 +1,5 @@
 -- What a zone's clock shows at the instants of local times.
-use Rattle.std.proofs.Common.{◌≡◌, ℕ, suc, true, false, ◌⊎◌, inl, inr, ⊎_elim, refl, sym, ap, subst, ◌∙◌, arith, List, ℤ, pos, ◌+ℤ◌, ◌-ℤ◌, ◌<ℤ◌, ◌≤ℤ◌, Option, Some, None, Contains}
-use Rattle.std.specs.Prelude.{slice_get}
+use Rattle.std.proofs.Common.{◌≡◌, suc, true, ◌⊎◌, inl, inr, ⊎_elim, refl, ap, subst, arith, ℤ, ◌+ℤ◌, ◌-ℤ◌, ◌<ℤ◌, ◌≤ℤ◌, Option, Some, None, Contains}
 use Rattle.std.proofs.lemmas.Int.{ints}
 use Rattle.std.proofs.lemmas.Option.{same_Some}
 use Rattle.tz_types.specs.declared.range.SysInfo.{SysInfo}
@@ -8,11 +7,10 @@ use Rattle.tz_types.specs.declared.range.LocalInfo.{LocalInfo}
 use Rattle.tz_types.specs.declared.range.LocalInfo.TheVariants.{Unique, Nonexistent, Ambiguous}
 use Rattle.tz_types.specs.declared.range.Choose.{Choose}
 use Rattle.tz_types.specs.declared.range.Choose.TheVariants.{Earliest, Latest}
-use Rattle.tz_specs.specs.Expansion.{IsInstant, first_instant, end_of_time, holds_instant, range_at}
-use Rattle.tz_specs.specs.Cover.{Covers}
+use Rattle.tz_specs.specs.Expansion.{IsInstant, first_instant, end_of_time, range_at}
 use Rattle.tz_specs.specs.Local.{shows_local, local_info, chosen_instant}
 use Rattle.tz_specs.proofs.Tests.{not_both}
-use Rattle.tz_specs.proofs.ListLemmas.{In, In-from_Contains, Contains-from_In, In-append_right, get_from_In}
+use Rattle.tz_specs.proofs.ListLemmas.{In-from_Contains, Contains-from_In, In-append_right, get_from_In}
 use Rattle.tz_specs.proofs.CoverLemmas.{true-holds, covers_each, range_at_only}
 use Rattle.tz_specs.proofs.LocalLemmas.{shows-true, true-shows, told_unique, told_ambiguous, told_gap}
 use Rattle.tz_expand.specs.declared.compiled_zone.CompiledZone.{CompiledZone}

@@ -1,7 +1,7 @@
 -- The walk through the ranges round a local time.
-use Rattle.std.proofs.Common.{◌≡◌, ℕ, suc, ◌≤◌, true, false, ◌⊎◌, inl, inr, ⊎_elim, refl, sym, ap, subst, ◌∙◌, arith, List, [], ◌∷◌, ◌++◌, append_assoc, ℤ, pos, negsuc, ◌+ℤ◌, ◌-ℤ◌, ◌<ℤ◌, ◌≤ℤ◌, Some, None, IsTrue}
+use Rattle.std.proofs.Common.{◌≡◌, suc, ◌≤◌, true, false, inl, inr, ⊎_elim, refl, sym, ap, subst, ◌∙◌, arith, List, [], ◌∷◌, ◌++◌, append_assoc, ℤ, pos, negsuc, ◌+ℤ◌, ◌-ℤ◌, ◌<ℤ◌, ◌≤ℤ◌, Some, None, IsTrue}
 use Rattle.std.specs.Int.{int_gap}
-use Rattle.std.proofs.lemmas.Int.{ints, by_lt_z}
+use Rattle.std.proofs.lemmas.Int.{ints}
 use Rattle.std.proofs.lemmas.Bool.{cond-true, cond-false, false_from_ne_true}
 use Rattle.std.proofs.lemmas.List.{append-nil}
 use Rattle.std.proofs.lemmas.Option.{same_Some, none-some}
@@ -11,7 +11,7 @@ use Rattle.tz_types.specs.declared.range.LocalInfo.{LocalInfo}
 use Rattle.tz_types.specs.declared.range.LocalInfo.TheVariants.{Unique, Nonexistent, Ambiguous}
 use Rattle.tz_specs.specs.Expansion.{IsInstant, first_instant, end_of_time, holds_instant, range_at}
 use Rattle.tz_specs.specs.Cover.{Covers}
-use Rattle.tz_specs.specs.Local.{shows_local, candidates, begins_by, from_last_begun, gap_between, last_from, local_info}
+use Rattle.tz_specs.specs.Local.{shows_local, candidates, begins_by, from_last_begun, gap_between, local_info}
 use Rattle.tz_specs.proofs.Tests.{by_test, le-int_le}
 use Rattle.tz_specs.proofs.ListLemmas.{In, In-from_get, In-append_left, In-append_right}
 use Rattle.tz_specs.proofs.CoverLemmas.{Covers-append, covers_ordered, holds-true, true-holds, after-holds, leads-chains}

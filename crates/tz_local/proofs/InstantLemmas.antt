@@ -1,12 +1,11 @@
 -- The instants of local times.
 use Rattle.std.proofs.Common.{◌≡◌, ℤ, Option, Some, None}
-use Rattle.tz_types.specs.declared.range.SysInfo.{SysInfo}
 use Rattle.tz_types.specs.declared.range.LocalInfo.{LocalInfo}
 use Rattle.tz_types.specs.declared.range.LocalInfo.TheVariants.{Unique, Nonexistent, Ambiguous}
 use Rattle.tz_types.specs.declared.range.Choose.{Choose}
 use Rattle.tz_types.specs.declared.range.Choose.TheVariants.{Earliest, Latest}
 use Rattle.tz_specs.specs.Local.{local_info, chosen_instant}
-use Rattle.tz_specs.proofs.ListLemmas.{In, In-from_Contains, In-from_get}
+use Rattle.tz_specs.proofs.ListLemmas.{In-from_Contains, In-from_get}
 use Rattle.tz_specs.proofs.LocalLemmas.{told_unique, told_ambiguous, told_gap}
 use Rattle.tz_specs.specs.Expansion.{first_instant, end_of_time}
 use Rattle.tz_expand.specs.declared.compiled_zone.CompiledZone.{CompiledZone}

@@ -1,3 +1,4 @@
+//! Why a time isn't told.
 use std::error::Error;
 use std::fmt;
 

@@ -1,3 +1,5 @@
+//! Instants with their zones, after ISO C++20 [time.zone.zonedtime]. System and local times are seconds from 1970-01-01
+//! 00:00:00.
 ghost use Rattle.std.specs.Prelude.{◌≡◌, ◌↔◌, ◌<◌, Some, None, IsOk, IfOk};
 ghost use Rattle.tz_types.specs.declared.range.LocalInfo.{LocalInfo};
 ghost use Rattle.tz_specs.specs.Expansion.{IsInstant, range_at};

@@ -1,4 +1,4 @@
-use Rattle.std.proofs.Common.{ℤ, pos, ◌+ℤ◌}
+use Rattle.std.proofs.Common.{pos, ◌+ℤ◌}
 use Rattle.std.specs.Int.{int_gap}
 use Rattle.tz_local.proofs.InfoLemmas.{IsWalk}
 use Rattle.tz_local.proofs.info.info_among.Given as goal

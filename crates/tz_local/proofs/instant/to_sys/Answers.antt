@@ -1,4 +1,4 @@
-use Rattle.std.proofs.Common.{rules, FitsSigned, Some, None, Err, refl, ap, sym, subst, ◌∙◌, ◌≡◌}
+use Rattle.std.proofs.Common.{rules, FitsSigned, Some, Err, refl, ap, sym, subst, ◌∙◌, ◌≡◌}
 use Rattle.std.specs.Int.{w64}
 use Rattle.std.proofs.lemmas.Int.{to_z-of_z}
 use Rattle.std.proofs.lemmas.Option.{same_Some}

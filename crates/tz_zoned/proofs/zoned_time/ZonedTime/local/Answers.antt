@@ -1,6 +1,6 @@
 use Rattle.std.proofs.Common.{rules, arith, FitsSigned}
 use Rattle.std.specs.Int.{w64}
-use Rattle.std.proofs.lemmas.Int.{ints, to_z-of_z}
+use Rattle.std.proofs.lemmas.Int.{ints}
 use Rattle.tz_local.proofs.InfoLemmas.{range_near}
 use Rattle.tz_zoned.proofs.zoned_time.ZonedTime.local.Goals as goal
 
