@@ -1,0 +1,1 @@
+//! What schedules have to do with whole runs of the core.
