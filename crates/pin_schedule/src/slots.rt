@@ -40,10 +40,11 @@ impl Slots {
     pub fn add(&mut self, slot: u32) -> Result<(), NoMemory>
         ensures { OnOk result (self.new ≡ with_number slot self.old) }
     {
-        let place = self.items.iter().take_while(|other| **other < slot).count();
-        if self.items.get(place) != Some(&slot) {
-            self.items.insert(place, slot)?;
+        let place = place_of(&self.items, slot);
+        if place < self.items.len() && self.items[place] == slot {
+            return Ok(());
         }
+        self.items.insert(place, slot)?;
         Ok(())
     }
 
@@ -52,4 +53,11 @@ impl Slots {
     {
         self.items.clear();
     }
+}
+
+/// Before how many of these slots this one doesn't come.
+fn place_of(slots: &[u32], slot: u32) -> usize
+    ensures { result ≡ length (take_while (λ other. nat_lt other slot) slots.now) }
+{
+    slots.iter().take_while(|other| **other < slot).count()
 }
