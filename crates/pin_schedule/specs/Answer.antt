@@ -1,5 +1,5 @@
 -- What of a state of the shared list is told when a schedule is over.
-use Rattle.std.specs.Prelude.{ℕ, ◌+◌, Option, Some, None, List, length, map, drop, slice_index_or}
+use Rattle.std.specs.Prelude.{ℕ, suc, Option, Some, None, List, length, map, drop, slice_index_or}
 use Rattle.pin_core.specs.declared.view.View.{View}
 use Rattle.pin_core.specs.Core.{CoreState, spent}
 use Rattle.pin_schedule.specs.declared.core_reader.CoreReader.{CoreReader}
@@ -7,7 +7,7 @@ use Rattle.pin_schedule.specs.declared.answer.Core.{Core}
 
 -- where the seat of this reader stands: all readers are out from the start, behind the main
 abbrev pub seat_of : ℕ → ℕ
-seat_of reader = reader + 1
+seat_of reader = suc reader
 
 -- what the reader knows
 abbrev pub view_of : CoreState → ℕ → View

@@ -1,9 +1,10 @@
 //! The pins of a reader.
-ghost use Rattle.std.specs.Prelude.{◌≡◌, ◌<◌, ◌||◌, not, nat_le, [], ◌∷◌, ◌++◌, length, position, OnOk};
+ghost use Rattle.std.specs.Prelude.{◌≡◌, ℕ, ◌<◌, ◌||◌, Some, is_some, IsSome, not, nat_le, [], ◌∷◌, ◌++◌, length, position, OnOk};
 ghost use Rattle.std.specs.List.{remove, list_all};
 ghost use Rattle.pin_core.specs.declared.entry.Entry.{Entry};
-ghost use Rattle.pin_schedule.specs.Pin.{is_stray_at, is_held_at, is_oldest_at, taken_place};
+ghost use Rattle.pin_schedule.specs.Pin.{is_stray_at, is_held_at, is_oldest_at, taken_place, has_place};
 
+use crate::limits::MOST_HANDLES;
 use pin_core::Entry;
 use std::alloc::Global;
 use std::marker::Model;
@@ -48,24 +49,40 @@ impl Entries {
         Ok(())
     }
 
-    /// Takes off the pin in this place.
-    pub fn take(&mut self, place: usize)
-        requires { place < length self.old }
-        ensures { self.new ≡ remove self.old place }
+    /// Takes off the pin at this slot that goes first: the stray there, or else the oldest that is held there.
+    pub fn take_at(&mut self, slot: u32)
+        requires { IsSome (taken_place slot self.old) }
+        ensures { (place : ℕ) → taken_place slot self.old ≡ Some place → self.new ≡ remove self.old place }
     {
-        let _ = self.items.remove(place);
+        if let Some(place) = taken_at(&self.items, slot) {
+            let _ = self.items.remove(place);
+        }
     }
 }
 
+/// Whether one more pin may be added: there are fewer than eight, and each is held.
+pub fn has_place(entries: &[Entry]) -> bool
+    ensures { result ≡ has_place entries.now }
+{
+    entries.len() < MOST_HANDLES && are_held(entries)
+}
+
+/// Whether some pin at this slot can be taken off.
+pub fn has_pin_at(entries: &[Entry], slot: u32) -> bool
+    ensures { result ≡ is_some (taken_place slot entries.now) }
+{
+    taken_at(entries, slot).is_some()
+}
+
 /// Whether each pin is held, so that none is a stray.
-pub fn are_held(entries: &[Entry]) -> bool
+fn are_held(entries: &[Entry]) -> bool
     ensures { result ≡ list_all (λ (e : Entry). e.held) entries.now }
 {
     entries.iter().all(|entry| entry.held)
 }
 
 /// The place of the pin that is taken off at this slot, if there is one.
-pub fn taken_at(entries: &[Entry], slot: u32) -> Option<usize>
+fn taken_at(entries: &[Entry], slot: u32) -> Option<usize>
     ensures { result ≡ taken_place slot entries.now }
 {
     match stray_at(entries, slot) {

@@ -15,8 +15,8 @@ pub returns : goal.returns
 returns c =
     let is = c.place_of-place.ensures ∙ ap (λ (xs : List ℕ). length (take_while (λ other. ltb other c.args.slot) xs)) c.deref.ensures.value in
     let apart : c.place_of-place.result < length c.self.inside.items.items → get_or c.self.inside.items.items c.place_of-place.result 0 ≡ c.args.slot → ⊥ =
-        elim c.else-place-len.branch [
-          else-place-len-via-then-place-len+else-index-slot w ↦ λ low same. grind (arith, common_steps)
-        | else-place-len-via-else-place-len w ↦ λ low same. omega arith
-        ] in
+    elim c.else-place-len.branch [
+      | else-place-len-via-then-place-len+else-index-slot w ↦ λ low same. grind (arith, common_steps)
+      | else-place-len-via-else-place-len w ↦ λ low same. omega arith
+    ] in
     rw (c.in_ok-insert.ensures.items, ← c.self.view_is) (slot_goes c.args.slot c.self.inside.items.items c.place_of-place.result is apart)
