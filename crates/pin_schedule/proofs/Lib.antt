@@ -1,3 +1,5 @@
 pub mod SlotLemmas
 pub mod ListedLemmas
 pub mod ViewLemmas
+pub mod StepLemmas
+pub mod AllowedLemmas

@@ -39,7 +39,7 @@ elem_there [] i d low = absurd (omega arith)
 elem_there (x ∷ xs) zero d low = refl
 elem_there (x ∷ xs) (suc i) d low = elem_there xs i d (omega arith)
 
-newest_placed : (es : List Edition) → get_or (map placed_of es) 0 record { n = 0; slot = 0 } ≡ record { n = (front_of es).n; slot = (front_of es).slot }
+pub newest_placed : (es : List Edition) → get_or (map placed_of es) 0 record { n = 0; slot = 0 } ≡ record { n = (front_of es).n; slot = (front_of es).slot }
 newest_placed [] = refl
 newest_placed (e ∷ es) = refl
 
@@ -88,7 +88,7 @@ module _ (made room : ℕ) (s : CoreState) (played : IsPlayed made room s) where
       view_here = get_or-set_same s.views (suc reader) w spent low
 
       view_else : (other : ℕ) → other ≢ reader → view_of changed other ≡ view_of s other
-      view_else other no = get_or-set_other s.views (suc reader) (suc other) w spent (λ e. no (omega (arith, e)))
+      view_else other apart = get_or-set_other s.views (suc reader) (suc other) w spent (λ e. apart (omega (arith, e)))
 
       pub changed_told : progress_of room changed ≡ record {
         room = room;
@@ -145,7 +145,7 @@ module _ (made room : ℕ) (s : CoreState) (played : IsPlayed made room s) where
             (λ (no : other ≢ reader). subst (λ (u : View). Amounts (made + 1) room u) (sym (view_else other no)) (later (view_of s other) (played.amounts other within))) (cases_eq other reader);
         slots = played.slots;
         readers = played.readers;
-        room = played.room;
+        writes = played.writes;
       }
         where
           long : length (set s.views (suc reader) w) ≡ length s.views
@@ -158,9 +158,9 @@ module _ (made room : ℕ) (s : CoreState) (played : IsPlayed made room s) where
           }
 
           else : (other : ℕ) → other < s.readers → other ≢ reader → HasReader changed (suc other) other (view_of changed other)
-          else other within no = record {
+          else other within apart = record {
             here = elem_there (set s.views (suc reader) w) (suc other) spent (omega (arith, long, played.seats, within));
-            reader = subst (λ (u : View). IsReader other u) (sym (view_else other no)) (played.out other within).reader;
+            reader = subst (λ (u : View). IsReader other u) (sym (view_else other apart)) (played.out other within).reader;
           }
 
           later : (u : View) → Amounts made room u → Amounts (made + 1) room u

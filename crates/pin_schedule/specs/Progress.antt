@@ -166,7 +166,7 @@ pub record IsPlayed (made room : ℕ) (s : CoreState) : Type 0 where
   pub amounts : (reader : ℕ) → reader < s.readers → Amounts made room (view_of s reader)
   pub slots : s.slots ≤ MOST_SLOTS
   pub readers : s.readers ≤ READER_NUMBERS
-  pub room : s.room ≤ READER_NUMBERS * MOST_WRITES
+  pub writes : s.room ≤ READER_NUMBERS * MOST_WRITES
 
 -- so many events left this state, and this is kept at hand of it
 pub record Stands (made room : ℕ) (s : CoreState) (p : Progress) : Type 0 where

@@ -1,0 +1,1 @@
+-- What is at hand tells whether an event is allowed.
