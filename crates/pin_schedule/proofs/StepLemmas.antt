@@ -103,7 +103,7 @@ module _ (made room : ℕ) (s : CoreState) (played : IsPlayed made room s) (read
   seat = played.lawful.turn.each (suc reader) v has.here (is_live reader v has.reader)
 
   -- the turn's holder has the claimed slot
-  claimed_mine : v.turn ≡ true → claimed_by s s.turn ≡ v.claimed
+  pub claimed_mine : v.turn ≡ true → claimed_by s s.turn ≡ v.claimed
   claimed_mine mine = ap (claimed_by s) (named s (suc reader) reader v played.lawful has mine)
 
   -- ---- a load ----
@@ -354,7 +354,7 @@ module _ (made room : ℕ) (s : CoreState) (played : IsPlayed made room s) (read
   pub erases_told : (after : ℕ) → v.claimed ≡ None → MayStore s reader (next_write reader v (erase_of s after)) v
       → with_write p reader (written p reader reader (Erase after (greatest_under after p.listed))) (without (greatest_under after p.listed) p.listed)
       ≡ progress_of room (store_front s (seat_of reader) v (next_write reader v (erase_of s after)))
-  erases_told after unclaimed may =
+  erases_told after nothing may =
       let gone = greatest_placed after (state_after s.slots s.journal).listed in
       stores_told (next_write reader v (erase_of s after)) may (written p reader reader (Erase after (greatest_under after p.listed))) (without (greatest_under after p.listed) p.listed) p.core.claimed
       (next_written (Erase after (greatest_under after p.listed)) (erase_of s after) (ap (Erase after) gone))

@@ -9,17 +9,18 @@ ghost use Rattle.pin_core.specs.declared.write.Change.TheVariants as changes;
 ghost use Rattle.pin_schedule.specs.declared.placed.Placed.{Placed};
 ghost use Rattle.pin_core.specs.declared.entry.SlotWord.{SlotWord};
 ghost use Rattle.pin_core.specs.Core.{CoreState};
-ghost use Rattle.pin_core.specs.Step.{with_number};
+ghost use Rattle.pin_core.specs.Step.{with_number, reader_at_first, opening_with_readers};
 ghost use Rattle.pin_core.specs.declared.limits.TheConstants.{FEWEST_SLOTS, MOST_SLOTS, MOST_WRITES, READER_NUMBERS};
 ghost use Rattle.pin_schedule.specs.Pin.{taken_place};
 ghost use Rattle.pin_schedule.specs.Schedule.{IsAllowed, after_event};
-ghost use Rattle.pin_schedule.specs.Progress.{Progress, reader_at, front_at, newest, word_at, counting, greatest_under, is_placed, is_numbered, without, is_turn_of, passes, written, with_reader, with_pin, with_word, with_turn, with_claimed, with_write, HasReach, Stands, CanMake};
+ghost use Rattle.pin_schedule.specs.Answer.{reader_of};
+ghost use Rattle.pin_schedule.specs.Progress.{Progress, reader_at, front_at, newest, word_at, counting, greatest_under, is_placed, is_numbered, without, is_turn_of, passes, written, progress_of, with_reader, with_pin, with_word, with_turn, with_claimed, with_write, HasReach, Stands, CanMake};
 
 use crate::answer::Core;
 use crate::core_reader::CoreReader;
 use crate::entries::{Entries, has_pin_at, has_place};
 use crate::event::{Event, Kind};
-use crate::placed::Placed;
+use crate::placed::{FIRST, Placed};
 use crate::slots::Slots;
 use pin_core::{Change, Entry, SlotWord, Write};
 use std::alloc::Global;
@@ -47,6 +48,60 @@ impl Model for Course {
 }
 
 impl Course {
+    /// So many slots, and so many readers, all of them out and each with room for so many writes.
+    pub fn new(alloc: Global, slots: u32, readers: u32, room: u32) -> Result<Self, NoMemory>
+        requires { 0 < slots }
+        ensures { IfOk result (λ course. course ≡ progress_of room (opening_with_readers slots readers room)) }
+    {
+        let nothing = SlotWord {
+            number: 0,
+            count: 0,
+        };
+        let mut words = vec![in alloc; nothing; slots as usize]?;
+        words[0].number = FIRST.n;
+        Ok(Course {
+            room,
+            journal: Vec::new(alloc),
+            words,
+            turn: None,
+            claimed: None,
+            readers: readers_at_first(alloc, readers, room)?,
+            fronts: vec![in alloc; FIRST; readers as usize]?,
+            listed: vec![in alloc; FIRST; 1]?,
+        })
+    }
+
+    /// The event is made, which is allowed.
+    pub fn make(&mut self, event: Event) -> Result<(), NoMemory>
+        requires { CanMake self.old event }
+        ensures { (made room : ℕ) (s : CoreState) → Stands made room s self.old → IsAllowed s event → OnOk result (Stands (made + 1) room (after_event s event) self.new) }
+    {
+        let number = event.reader;
+        let reader = number as usize;
+        match event.kind {
+            Kind::LoadFront => {
+                self.load_front(reader);
+                Ok(())
+            }
+            Kind::AddPin => self.add_pin(reader),
+            Kind::TakePin { slot } => {
+                self.take_pin(reader, slot);
+                Ok(())
+            }
+            Kind::TakeTurn => {
+                self.exchange_turn(reader, number);
+                Ok(())
+            }
+            Kind::Claim { slot } => self.claim(reader, slot),
+            Kind::StorePush { src } => self.push(reader, number, src),
+            Kind::StoreErase { after } => self.erase(reader, number, after),
+            Kind::StoreTurn => {
+                self.give_turn();
+                Ok(())
+            }
+        }
+    }
+
     /// The core as it was answered when all events are over.
     pub fn into_core(self) -> Core
         ensures { result ≡ self.core }
@@ -268,6 +323,26 @@ impl Course {
     {
         self.has_slot(slot) && !is_placed(&self.listed, slot)
     }
+}
+
+/// So many readers that have done nothing yet, and may each make so many writes.
+fn readers_at_first(alloc: Global, readers: u32, room: u32) -> Result<Vec<CoreReader>, NoMemory>
+    ensures { IfOk result (λ v. v.items ≡ replicate readers (reader_of (reader_at_first room 0))) }
+{
+    let mut all = Vec::with_capacity(alloc, readers as usize)?;
+    for _ in 0..readers {
+        all.push(CoreReader {
+            seen: 0,
+            loads: 0,
+            pins: 0,
+            taken: 0,
+            refused: 0,
+            allowance: room,
+            pinned: Slots::new(alloc),
+            entries: Entries::new(alloc),
+        })?;
+    }
+    Ok(all)
 }
 
 /// Whether a version in this slot is among these.
