@@ -3,3 +3,5 @@ pub mod ListedLemmas
 pub mod ViewLemmas
 pub mod StepLemmas
 pub mod AllowedLemmas
+pub mod MakeLemmas
+pub mod OpeningLemmas

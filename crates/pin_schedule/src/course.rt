@@ -58,7 +58,10 @@ impl Course {
             count: 0,
         };
         let mut words = vec![in alloc; nothing; slots as usize]?;
-        words[0].number = FIRST.n;
+        words[0] = SlotWord {
+            number: FIRST.n,
+            count: 0,
+        };
         Ok(Course {
             room,
             journal: Vec::new(alloc),
