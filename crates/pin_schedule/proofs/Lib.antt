@@ -5,3 +5,4 @@ pub mod StepLemmas
 pub mod AllowedLemmas
 pub mod MakeLemmas
 pub mod OpeningLemmas
+pub mod EventLemmas

@@ -23,7 +23,7 @@ pub use entries::Entries;
 pub use event::{Event, Kind};
 pub use limits::{MOST_EVENTS, MOST_HANDLES};
 pub use pin_core::{Entry, SlotWord};
-// pub use schedule::run_schedule;
+pub use schedule::run_schedule;
 pub use schedule_error::ScheduleError;
 pub use slots::Slots;
 
