@@ -6,3 +6,5 @@ pub mod AllowedLemmas
 pub mod MakeLemmas
 pub mod OpeningLemmas
 pub mod EventLemmas
+pub mod RunLemmas
+pub mod PinLemmas

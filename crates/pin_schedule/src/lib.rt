@@ -25,7 +25,12 @@ pub use limits::{MOST_EVENTS, MOST_HANDLES};
 pub use pin_core::{Entry, SlotWord};
 pub use schedule::run_schedule;
 pub use schedule_error::ScheduleError;
+pub use schedule_laws::{
+    a_schedule_has_one_outcome, a_schedule_is_a_run, strays_go_first_and_then_the_oldest,
+};
 pub use slots::Slots;
 
 #[cfg(test)]
 mod tests;
+#[cfg(test)]
+mod walk_tests;

@@ -121,98 +121,165 @@ fn the_turn_has_one_holder(rt: HostRuntime) -> Result<(), Fail> {
     Ok(())
 }
 
+const LOAD: Event = Event {
+    reader: 0,
+    kind: Kind::LoadFront,
+};
+
+const PIN: Event = Event {
+    reader: 0,
+    kind: Kind::AddPin,
+};
+
+const UNPIN: Event = Event {
+    reader: 0,
+    kind: Kind::TakePin { slot: 0 },
+};
+
+const TAKE: Event = Event {
+    reader: 1,
+    kind: Kind::TakeTurn,
+};
+
+const CLAIM: Event = Event {
+    reader: 1,
+    kind: Kind::Claim { slot: 1 },
+};
+
+const CLAIM_FIRST: Event = Event {
+    reader: 1,
+    kind: Kind::Claim { slot: 0 },
+};
+
+const PUSH: Event = Event {
+    reader: 1,
+    kind: Kind::StorePush { src: 5 },
+};
+
+const ERASE: Event = Event {
+    reader: 1,
+    kind: Kind::StoreErase { after: 2 },
+};
+
+const GIVE: Event = Event {
+    reader: 1,
+    kind: Kind::StoreTurn,
+};
+
+/// Schedules whose last event isn't allowed: readers and slots that aren't there, claims, stores and turns without leave,
+/// a ninth pin, and pins that nobody has.
+const REFUSED: [&[Event]; 26] = [
+    &[
+        PIN,
+        Event {
+            reader: 2,
+            kind: Kind::LoadFront,
+        },
+    ],
+    &[Event {
+        reader: u32::MAX,
+        kind: Kind::AddPin,
+    }],
+    &[
+        TAKE,
+        Event {
+            reader: 1,
+            kind: Kind::Claim { slot: 2 },
+        },
+    ],
+    &[TAKE, CLAIM_FIRST],
+    &[CLAIM],
+    &[
+        TAKE,
+        Event {
+            reader: 0,
+            kind: Kind::Claim { slot: 1 },
+        },
+    ],
+    &[TAKE, CLAIM, CLAIM],
+    &[TAKE, CLAIM, PUSH, ERASE, CLAIM_FIRST, CLAIM_FIRST],
+    &[TAKE, PUSH],
+    &[PUSH],
+    &[TAKE, CLAIM, PUSH, PUSH],
+    &[
+        TAKE,
+        Event {
+            reader: 1,
+            kind: Kind::StoreErase { after: 1 },
+        },
+    ],
+    &[TAKE, ERASE],
+    &[
+        TAKE,
+        CLAIM,
+        PUSH,
+        Event {
+            reader: 1,
+            kind: Kind::StoreErase { after: 1 },
+        },
+    ],
+    &[
+        TAKE,
+        CLAIM,
+        PUSH,
+        Event {
+            reader: 1,
+            kind: Kind::StoreErase { after: 3 },
+        },
+    ],
+    &[TAKE, CLAIM, PUSH, ERASE, ERASE],
+    &[
+        TAKE,
+        CLAIM,
+        PUSH,
+        Event {
+            reader: 0,
+            kind: Kind::StoreErase { after: 2 },
+        },
+    ],
+    &[TAKE, CLAIM, GIVE],
+    &[GIVE],
+    &[
+        TAKE,
+        Event {
+            reader: 0,
+            kind: Kind::StoreTurn,
+        },
+    ],
+    &[TAKE, TAKE],
+    &[PIN, PIN, PIN, PIN, PIN, PIN, PIN, PIN, PIN],
+    &[UNPIN],
+    &[PIN, UNPIN, UNPIN],
+    &[
+        PIN,
+        Event {
+            reader: 0,
+            kind: Kind::TakePin { slot: 1 },
+        },
+    ],
+    &[
+        LOAD,
+        PIN,
+        Event {
+            reader: 0,
+            kind: Kind::TakePin { slot: 2 },
+        },
+    ],
+];
+
 #[test]
-fn refuses_the_first_that_is_not_allowed(rt: HostRuntime) -> Result<(), Fail> {
-    let take = event(1, Kind::TakeTurn);
-    let claim = event(1, Kind::Claim { slot: 1 });
-    let store = event(1, Kind::StorePush { src: 5 });
-    let free = event(1, Kind::StoreErase { after: 2 });
-    let pin = event(0, Kind::AddPin);
-    let unpin = event(0, Kind::TakePin { slot: 0 });
-    let rows = [
-        (vec![in rt.alloc(); pin, event(2, Kind::LoadFront)]?, 1),
-        (vec![in rt.alloc(); event(u32::MAX, Kind::AddPin)]?, 0),
-        (
-            vec![in rt.alloc(); take, event(1, Kind::Claim { slot: 2 })]?,
-            1,
-        ),
-        (
-            vec![in rt.alloc(); take, event(1, Kind::Claim { slot: 0 })]?,
-            1,
-        ),
-        (vec![in rt.alloc(); claim]?, 0),
-        (
-            vec![in rt.alloc(); take, event(0, Kind::Claim { slot: 1 })]?,
-            1,
-        ),
-        (vec![in rt.alloc(); take, claim, claim]?, 2),
-        (
-            vec![in rt.alloc();
-                take,
-                claim,
-                store,
-                free,
-                event(1, Kind::Claim { slot: 0 }),
-                event(1, Kind::Claim { slot: 0 }),
-            ]?,
-            5,
-        ),
-        (vec![in rt.alloc(); take, store]?, 1),
-        (vec![in rt.alloc(); store]?, 0),
-        (vec![in rt.alloc(); take, claim, store, store]?, 3),
-        (
-            vec![in rt.alloc(); take, event(1, Kind::StoreErase { after: 1 })]?,
-            1,
-        ),
-        (vec![in rt.alloc(); take, free]?, 1),
-        (
-            vec![in rt.alloc(); take, claim, store, event(1, Kind::StoreErase { after: 1 })]?,
-            3,
-        ),
-        (
-            vec![in rt.alloc(); take, claim, store, event(1, Kind::StoreErase { after: 3 })]?,
-            3,
-        ),
-        (vec![in rt.alloc(); take, claim, store, free, free]?, 4),
-        (
-            vec![in rt.alloc(); take, claim, store, event(0, Kind::StoreErase { after: 2 })]?,
-            3,
-        ),
-        (
-            vec![in rt.alloc(); take, claim, event(1, Kind::StoreTurn)]?,
-            2,
-        ),
-        (vec![in rt.alloc(); event(1, Kind::StoreTurn)]?, 0),
-        (vec![in rt.alloc(); take, event(0, Kind::StoreTurn)]?, 1),
-        (vec![in rt.alloc(); take, take]?, 1),
-        (
-            vec![in rt.alloc(); pin, pin, pin, pin, pin, pin, pin, pin, pin]?,
-            8,
-        ),
-        (vec![in rt.alloc(); unpin]?, 0),
-        (vec![in rt.alloc(); pin, unpin, unpin]?, 2),
-        (
-            vec![in rt.alloc(); pin, event(0, Kind::TakePin { slot: 1 })]?,
-            1,
-        ),
-        (
-            vec![in rt.alloc(); pin, event(0, Kind::TakePin { slot: 2 })]?,
-            1,
-        ),
-        (
-            vec![in rt.alloc(); pin, event(1, Kind::TakePin { slot: 0 })]?,
-            1,
-        ),
-    ];
-    for (events, index) in &rows {
-        let answer = run_schedule(rt.alloc(), 2, 2, 4, events);
-        assert_eq!(rt; refused(answer), Some(*index), "{events:?}");
-        let before = *index as usize;
-        if before <= events.len() {
-            assert!(rt; run_schedule(rt.alloc(), 2, 2, 4, &events[..before]).is_ok());
+fn refuses_the_first_that_is_not_allowed(rt: HostRuntime) {
+    for events in REFUSED {
+        assert!(rt; events.len() < MOST_EVENTS);
+        if let [before @ .., _] = events {
+            assert!(rt;
+                run_schedule(rt.alloc(), 2, 2, 4, before).is_ok(),
+                "{events:?}"
+            );
+            let answer = run_schedule(rt.alloc(), 2, 2, 4, events);
+            assert_eq!(rt; refused(answer), Some(before.len() as u32), "{events:?}");
         }
     }
-    Ok(())
 }
 
 #[test]
