@@ -37,21 +37,20 @@ taken_oldest slot place entries e is at held k d low same =
     let here = entry_is entries place e at in
     let nothing : Entry = record { slot = 0; position = 0; held = false } in
     let no_stray : position (is_stray_at slot) entries ≡ Some place → ⊥ = λ stray.
-        (let found = (position-Some (is_stray_at slot) entries place nothing stray).1 in
-        let parts = and_parts ((entry_at entries place).slot == slot) (not (entry_at entries place).held) found in
-        both_ways (entry_at entries place).held (not-true (entry_at entries place).held parts.1) (ap (λ (x : Entry). x.held) here ∙ held)) in
+    (let found = (position-Some (is_stray_at slot) entries place nothing stray).1 in
+    let parts = and_parts ((entry_at entries place).slot == slot) (not (entry_at entries place).held) found in
+    both_ways (entry_at entries place).held (not-true (entry_at entries place).held parts.1) (ap (λ (x : Entry). x.held) here ∙ held)) in
     let both = second (position (is_stray_at slot) entries) (position (is_oldest_at slot entries) entries) place is no_stray in
     let other = get_or entries k d in
     let is_here = eq-eqb other.slot slot same in
     let other_held : other.held ≡ true = ⊎_elim (λ (t : other.held ≡ true). t)
-        (λ (f : other.held ≡ false). absurd (both_ways (is_stray_at slot other) (none_passes (is_stray_at slot) entries both.0 k d low) (and_from (other.slot == slot) (not other.held) is_here (not_from_false other.held f))))
-        (cases_Bool other.held) in
+    (λ (f : other.held ≡ false). absurd (both_ways (is_stray_at slot other) (none_passes (is_stray_at slot) entries both.0 k d low) (and_from (other.slot == slot) (not other.held) is_here (not_from_false other.held f))))
+    (cases_Bool other.held) in
     let found = (position-Some (is_oldest_at slot entries) entries place nothing both.1).1 in
     let least = and_parts (is_held_at slot (entry_at entries place)) (list_all (λ (x : Entry). not (is_held_at slot x) || nat_le (entry_at entries place).position x.position) entries) found in
     let each = AllPass-from_list_all (λ (x : Entry). not (is_held_at slot x) || nat_le (entry_at entries place).position x.position) entries least.1 k d low in
     let held_here = and_from (other.slot == slot) other.held is_here other_held in
-    let position_same = ap (λ (x : Entry). x.position) here in
-    (
+    let position_same = ap (λ (x : Entry). x.position) here in (
       other_held,
       ⊎_elim
           (λ (t : not (is_held_at slot other) ≡ true). absurd (both_ways (is_held_at slot other) (not-true (is_held_at slot other) t) held_here))
