@@ -2,9 +2,10 @@
 ghost use Rattle.std.specs.Prelude.{◌≡◌, ◌<◌};
 ghost use Rattle.tz_types.specs.Amount.{IsShift};
 
+use crate::rule_year::RuleYear;
+use crate::state::state_at;
 use std::marker::Brand;
 use std::sync::ledger::{Blank, Ledger};
-use tz_plain::{RuleYear, state_at};
 use tz_rules::{Taken, last_at_or_before, next_after, occurrence};
 use tz_types::{RuleSet, Steps};
 

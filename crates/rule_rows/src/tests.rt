@@ -2,14 +2,15 @@
 ghost use Rattle.tz_types.specs.Amount.{IsShift};
 
 use crate::compared::{Listed, Told, agree, searched};
+use crate::listing::occurrences;
 use crate::sets::{
     APRIL_TO_OCTOBER, EVERY_YEAR, FIRST_AND_LAST_YEARS, GAPS, IRELAND, LATE_OCTOBER, ONE_SECOND,
     OVERTAKING, STRANGE_DAYS, UNITED_STATES,
 };
+use crate::state::instants;
 use std::alloc::Global;
 use std::test::Fail;
 use tz_lines::read_zones;
-use tz_plain::{instants, occurrences};
 use tz_rules::Taken;
 use tz_types::{Db, RuleSet, TextError};
 

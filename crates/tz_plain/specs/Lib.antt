@@ -1,4 +1,0 @@
-pub mod Listing
-pub mod Written
-pub mod Kept
-pub mod Follows

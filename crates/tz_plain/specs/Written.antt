@@ -1,9 +1,0 @@
--- An offset written with its seconds, of which the shortest text that loses nothing is a part.
-use Rattle.std.specs.Prelude.{ℕ, ◌/◌, ◌%◌, if◌then◌else◌, List, ◌∷◌, ◌++◌, ℤ, pos, int_lt, unsigned_abs}
-use Rattle.tz_specs.specs.Abbreviation.{two_digits}
-
--- hours, minutes and seconds behind the sign
-abbrev pub longest_offset_text : ℤ → List ℕ
-longest_offset_text offset =
-    (if int_lt offset (pos 0) then 0x2d else 0x2b)
-    ∷ (two_digits (unsigned_abs offset / 3600) ++ two_digits (unsigned_abs offset / 60 % 60) ++ two_digits (unsigned_abs offset % 60))
