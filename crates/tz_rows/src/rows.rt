@@ -4,6 +4,7 @@ use crate::texts::TEXTS;
 use std::alloc::{AllocError, Global};
 use std::process::Abort;
 use std::test::Fail;
+use std::thread::Threads;
 use tz_cli::{Plain, Status};
 use tz_io::MemoryFiles;
 
@@ -301,14 +302,14 @@ fn files(alloc: Global) -> Result<MemoryFiles, AllocError> {
 }
 
 fn answers(
-    rt: &impl Abort,
+    rt: &(impl Abort + Threads + Sync),
     alloc: Global,
     rows: &[(&str, Status, &str)],
 ) -> Result<(), AllocError> {
     let mut files = files(alloc)?;
     for (line, status, printed) in rows {
         for piece in [1, 64] {
-            let (answer, taken) = run(alloc, &mut files, line, piece, 4_096)?;
+            let (answer, taken) = run(rt, alloc, &mut files, line, piece, 4_096)?;
             assert_eq!(rt; answer, Plain::Done(*status), "{line}");
             assert_eq!(rt; taken.as_slice(), printed.as_bytes(), "{line}");
         }
@@ -329,7 +330,7 @@ fn answers_each_row(rt: HostRuntime) -> Result<(), Fail> {
 fn writes_a_part(rt: HostRuntime) -> Result<(), Fail> {
     let mut files = files(rt.alloc())?;
     for (line, room, printed) in PARTS {
-        let (answer, taken) = run(rt.alloc(), &mut files, line, 64, room)?;
+        let (answer, taken) = run(&rt, rt.alloc(), &mut files, line, 64, room)?;
         assert_eq!(rt; answer, Plain::Done(Status::Write), "{line}");
         assert_eq!(rt; taken.as_slice(), printed.as_bytes(), "{line}");
     }

@@ -2,14 +2,20 @@
 use crate::outside::{files_of, run};
 use std::alloc::{AllocError, Global};
 use std::test::Fail;
+use std::thread::Threads;
 use tz_cli::{Plain, Status};
 
 /// What a command answers over one text, which is the file `L`, and what it writes.
-fn answer_to(alloc: Global, text: Vec<u8>, line: &str) -> Result<(Plain, Vec<u8>), AllocError> {
+fn answer_to(
+    rt: &(impl Threads + Sync),
+    alloc: Global,
+    text: Vec<u8>,
+    line: &str,
+) -> Result<(Plain, Vec<u8>), AllocError> {
     let mut list = Vec::new(alloc);
     list.push((format!(in alloc; "L")?, text))?;
     let mut files = files_of(alloc, list)?;
-    run(alloc, &mut files, line, 64, 4_096)
+    run(rt, alloc, &mut files, line, 64, 4_096)
 }
 
 /// Blank lines of 64 bytes, cut off after `length` bytes.
@@ -53,10 +59,20 @@ fn a_file_too_large_is_told(rt: HostRuntime) -> Result<(), Fail> {
         ("clock L sys-utc 7", Status::Ok, "7\n"),
     ];
     for (line, status, printed) in cases {
-        let (answer, taken) = answer_to(rt.alloc(), blank_lines(rt.alloc(), 4_194_304)?, line)?;
+        let (answer, taken) = answer_to(
+            &rt,
+            rt.alloc(),
+            blank_lines(rt.alloc(), 4_194_304)?,
+            line,
+        )?;
         assert_eq!(rt; answer, Plain::Done(status), "{line}");
         assert_eq!(rt; taken.as_slice(), printed.as_bytes(), "{line}");
-        let (answer, taken) = answer_to(rt.alloc(), blank_lines(rt.alloc(), 4_194_305)?, line)?;
+        let (answer, taken) = answer_to(
+            &rt,
+            rt.alloc(),
+            blank_lines(rt.alloc(), 4_194_305)?,
+            line,
+        )?;
         assert_eq!(rt; answer, Plain::Done(Status::TooLarge), "{line}");
         assert_eq!(rt; taken.as_slice(), b"toolarge\n".as_slice(), "{line}");
     }
@@ -79,7 +95,7 @@ fn leap_texts_have_limits(rt: HostRuntime) -> Result<(), Fail> {
         ),
     ];
     for (text, status, printed) in cases {
-        let (answer, taken) = answer_to(alloc, text, "clock L sys-utc 0")?;
+        let (answer, taken) = answer_to(&rt, alloc, text, "clock L sys-utc 0")?;
         assert_eq!(rt; answer, Plain::Done(status), "{printed}");
         assert_eq!(rt; taken.as_slice(), printed.as_bytes());
     }

@@ -3,6 +3,7 @@ use crate::outside::{files_of, run};
 use std::alloc::{AllocError, Global};
 use std::process::Abort;
 use std::test::Fail;
+use std::thread::Threads;
 use tz_cli::{Plain, Status};
 
 /// A text for each cause of one line.
@@ -127,20 +128,29 @@ const ACCEPTED: [(&str, &str); 20] = [
 ];
 
 /// What `check` answers of a text, and what it writes.
-fn checked(alloc: Global, text: &[u8]) -> Result<(Plain, Vec<u8>), AllocError> {
+fn checked(
+    rt: &(impl Threads + Sync),
+    alloc: Global,
+    text: &[u8],
+) -> Result<(Plain, Vec<u8>), AllocError> {
     let mut list = Vec::new(alloc);
     list.push((format!(in alloc; "T")?, text.to_vec(alloc)?))?;
     let mut files = files_of(alloc, list)?;
-    run(alloc, &mut files, "check T", 64, 4_096)
+    run(rt, alloc, &mut files, "check T", 64, 4_096)
 }
 
-fn prints(rt: &impl Abort, alloc: Global, text: &[u8], printed: &str) -> Result<(), AllocError> {
+fn prints(
+    rt: &(impl Abort + Threads + Sync),
+    alloc: Global,
+    text: &[u8],
+    printed: &str,
+) -> Result<(), AllocError> {
     let status = if printed.starts_with("ok") {
         Status::Ok
     } else {
         Status::Text
     };
-    let (answer, taken) = checked(alloc, text)?;
+    let (answer, taken) = checked(rt, alloc, text)?;
     assert_eq!(rt; taken.as_slice(), printed.as_bytes(), "{text:?}");
     assert_eq!(rt; answer, Plain::Done(status), "{text:?}");
     Ok(())
@@ -254,7 +264,7 @@ fn check_keeps_limits(rt: HostRuntime) -> Result<(), Fail> {
         } else {
             Status::Text
         };
-        let (answer, taken) = checked(alloc, text.as_slice())?;
+        let (answer, taken) = checked(&rt, alloc, text.as_slice())?;
         assert_eq!(rt; taken.as_slice(), printed.as_bytes());
         assert_eq!(rt; answer, Plain::Done(status), "{printed}");
     }
