@@ -2,6 +2,10 @@
 #![tactic(auto)]
 
 #[cfg(test)]
+mod dumps;
+#[cfg(test)]
+mod links;
+#[cfg(test)]
 mod outside;
 #[cfg(test)]
 mod real_texts;

@@ -1,5 +1,6 @@
 //! Commands over files and a sink in memory.
 use std::alloc::{AllocError, Global};
+use std::thread::Threads;
 use tz_cli::{Plain, run_plain};
 use tz_io::{MemoryFiles, MemorySink};
 use tz_types::NoMemory;
@@ -12,22 +13,34 @@ pub fn files_of(alloc: Global, list: Vec<(String, Vec<u8>)>) -> Result<MemoryFil
     }
 }
 
+/// What a command answers over the files, where it writes into that sink.
+pub fn run_into(
+    rt: &(impl Threads + Sync),
+    alloc: Global,
+    files: &mut MemoryFiles,
+    line: &str,
+    sink: &mut MemorySink,
+) -> Result<Plain, AllocError> {
+    let mut words = Vec::new(alloc);
+    for word in line.split_whitespace() {
+        words.push(format!(in alloc; "{word}")?)?;
+    }
+    Ok(run_plain(rt, alloc, words.as_slice(), files, sink))
+}
+
 /// What a command answers over the files, and what it writes into a sink that takes `piece` bytes a write and `room`
 /// in all.
 pub fn run(
+    rt: &(impl Threads + Sync),
     alloc: Global,
     files: &mut MemoryFiles,
     line: &str,
     piece: usize,
     room: usize,
 ) -> Result<(Plain, Vec<u8>), AllocError> {
-    let mut words = Vec::new(alloc);
-    for word in line.split_whitespace() {
-        words.push(format!(in alloc; "{word}")?)?;
-    }
     let Ok(mut sink) = MemorySink::new(alloc, piece, room, Vec::new(alloc)) else {
         return Err(AllocError);
     };
-    let answer = run_plain(alloc, words.as_slice(), files, &mut sink);
+    let answer = run_into(rt, alloc, files, line, &mut sink)?;
     Ok((answer, sink.taken().to_vec(alloc)?))
 }

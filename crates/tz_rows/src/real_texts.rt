@@ -1,11 +1,14 @@
 //! Texts that the machine may have. Where it has none, nothing is tested.
+use crate::outside::{files_of, run};
 use std::alloc::{AllocError, Global};
-use std::fs;
+use std::cmp::Ordering;
 use std::process::Abort;
 use std::test::Fail;
-use tz_lines::{ReadError, read_leaps, read_zones};
+use std::{fs, str};
+use tz_cli::{Plain, Status};
+use tz_io::MemoryFiles;
+use tz_lines::read_leaps;
 use tz_text::{Fields, Joined, amount, named, on, signed_number, year};
-use tz_types::Fault;
 
 /// A text in the compact spelling.
 const ZONES: &str = "/usr/share/zoneinfo/tzdata.zi";
@@ -54,57 +57,97 @@ fn a_real_text_has_values(rt: HostRuntime) -> Result<(), Fail> {
     Ok(())
 }
 
-/// Whether a line of a zone isn't built yet, by its RULES and its FORMAT.
-fn is_unbuilt(rules: Option<&str>, format: Option<&str>) -> bool {
-    match (rules, format) {
-        (Some(rules), Some(format)) => rules != "-" || format.contains('%') || format.contains('/'),
-        _ => false,
-    }
+/// How many lines of a text begin so.
+fn lines_with(text: &str, start: &str) -> usize {
+    text.lines().filter(|line| line.starts_with(start)).count()
 }
 
-/// The number of the first line of a text in the compact spelling that isn't built yet, or 0.
-fn first_unbuilt(text: &str) -> u32 {
-    let mut continues = false;
-    let mut number = 0u32;
-    for line in text.lines() {
-        number = number.saturating_add(1);
-        if line.starts_with("L ") {
-            return number;
-        }
-        if line.starts_with('#') || line.starts_with("R ") {
-            continue;
-        }
-        let mut words = line.split_whitespace();
-        if !continues {
-            let _ = words.next();
-            let _ = words.next();
-        }
-        let _ = words.next();
-        let rules = words.next();
-        let format = words.next();
-        if is_unbuilt(rules, format) {
-            return number;
-        }
-        continues = words.next().is_some();
-    }
-    0
+/// The file `T` of a text.
+fn file_of(alloc: Global, text: &str) -> Result<MemoryFiles, AllocError> {
+    let mut list = Vec::new(alloc);
+    list.push((format!(in alloc; "T")?, text.as_bytes().to_vec(alloc)?))?;
+    files_of(alloc, list)
 }
 
 #[test]
-fn a_real_text_is_told_where_it_is_unbuilt(rt: HostRuntime) -> Result<(), Fail> {
+fn a_real_text_is_counted(rt: HostRuntime) -> Result<(), Fail> {
     if !fs::exists(&rt, ZONES)? {
         return Ok(());
     }
     let text = fs::read_to_string(&rt, ZONES)?;
-    assert!(rt; text.len() <= 4_194_304);
-    let wanted = Fault {
-        line: first_unbuilt(text.as_str()),
-        cause: 0,
-    };
-    match read_zones(rt.alloc(), text.as_bytes()) {
-        Ok(_) => assert!(rt; false, "{ZONES} is read"),
-        Err(error) => assert_eq!(rt; error, ReadError::Fault(wanted)),
+    let first = text.lines().next().ok_or("a first line")?;
+    let version = first.strip_prefix("# version ").ok_or("a version")?;
+    let rules = lines_with(text.as_str(), "R ");
+    let zones = lines_with(text.as_str(), "Z ");
+    let links = lines_with(text.as_str(), "L ");
+    let alloc = rt.alloc();
+    let printed = format!(in alloc; "ok {version} rules {rules} zones {zones} links {links}\n")?;
+    let mut files = file_of(alloc, text.as_str())?;
+    let (answer, taken) = run(&rt, alloc, &mut files, "check T", 64, 4_096)?;
+    assert_eq!(rt; taken.as_slice(), printed.as_bytes());
+    assert_eq!(rt; answer, Plain::Done(Status::Ok));
+    Ok(())
+}
+
+/// Where the range of a line begins and ends.
+fn ends(line: &str) -> Option<(i64, i64)> {
+    let mut words = line.split(' ');
+    let begin = signed_number(words.next()?.as_bytes())?;
+    let end = signed_number(words.next()?.as_bytes())?;
+    Some((begin, end))
+}
+
+/// Asserts that the ranges of each zone of a dump join without a gap from its start to its end, and that the zones stand in
+/// the order of their names. Answers how many zones there are.
+fn joined_zones(rt: &impl Abort, dump: &str, from: i64, to: i64) -> usize {
+    let mut zones = 0usize;
+    let mut name = "";
+    let mut reached = Some(to);
+    for line in dump.lines() {
+        match (line.strip_prefix("zone "), ends(line)) {
+            (Some(next), _) => {
+                assert!(rt; reached.is_some_and(|end| end >= to), "before {line}");
+                assert!(rt;
+                    name.as_bytes().cmp(next.as_bytes()) == Ordering::Less,
+                    "{line}"
+                );
+                zones = zones.saturating_add(1);
+                name = next;
+                reached = None;
+            }
+            (None, Some((begin, end))) => {
+                assert!(rt; begin < end, "{name} {line}");
+                assert!(rt;
+                    reached.map_or(begin <= from, |before| before == begin),
+                    "{name} {line}"
+                );
+                reached = Some(end);
+            }
+            (None, None) => assert!(rt; false, "{name} {line}"),
+        }
     }
+    assert!(rt; reached.is_some_and(|end| end >= to), "after {name}");
+    zones
+}
+
+#[test]
+fn a_real_text_is_dumped_without_gaps(rt: HostRuntime) -> Result<(), Fail> {
+    if !fs::exists(&rt, ZONES)? {
+        return Ok(());
+    }
+    let alloc = rt.alloc();
+    let text = fs::read_to_string(&rt, ZONES)?;
+    let mut files = file_of(alloc, text.as_str())?;
+    // From 1900 to 2100.
+    let (from, to) = (-2_208_988_800, 4_102_444_800);
+    let line = format!(in alloc; "dump T {from} {to} -")?;
+    let (answer, taken) = run(&rt, alloc, &mut files, line.as_str(), 65_536, 33_554_432)?;
+    assert_eq!(rt; answer, Plain::Done(Status::Ok));
+    let dump = str::from_utf8(taken.as_slice()).ok().ok_or("a text")?;
+    assert_eq!(rt;
+        joined_zones(&rt, dump, from, to),
+        lines_with(text.as_str(), "Z ")
+    );
     Ok(())
 }
 

@@ -4,10 +4,11 @@ use crate::texts::TEXTS;
 use std::alloc::{AllocError, Global};
 use std::process::Abort;
 use std::test::Fail;
+use std::thread::Threads;
 use tz_cli::{Plain, Status};
 use tz_io::MemoryFiles;
 
-const INFO: [(&str, Status, &str); 27] = [
+const INFO: [(&str, Status, &str); 32] = [
     (
         "info N America/New_York 0",
         Status::Ok,
@@ -45,21 +46,42 @@ const INFO: [(&str, Status, &str); 27] = [
     ),
     ("info N Nowhere 253402300800", Status::NoZone, "nozone\n"),
     ("info N Nowhere 0", Status::NoZone, "nozone\n"),
-    ("info E Nowhere 0", Status::NoZone, "nozone\n"),
+    ("info empty Nowhere 0", Status::NoZone, "nozone\n"),
     (
         "info D Far/East 0",
         Status::Ok,
         "-377705116800 253402300800 86400 0 DAY\n",
     ),
-    ("info A America/New_York 0", Status::Text, "text 11 0\n"),
-    ("info A Nowhere 253402300800", Status::Text, "text 11 0\n"),
+    ("info A Nowhere 253402300800", Status::NoZone, "nozone\n"),
+    ("info N - 0", Status::NoZone, "nozone\n"),
+    (
+        "info several - 0",
+        Status::Ok,
+        "-377705116800 253402300800 7200 0 +02\n",
+    ),
+    (
+        "info several A 0",
+        Status::Ok,
+        "-377705116800 253402300800 0 3600 e\n",
+    ),
+    (
+        "info several L 0",
+        Status::Ok,
+        "-377705116800 253402300800 0 0 b\n",
+    ),
+    (
+        "info several a 0",
+        Status::Ok,
+        "-377705116800 253402300800 3600 0 c\n",
+    ),
+    ("info several l 0", Status::NoZone, "nozone\n"),
     (
         "info C A 946684799",
         Status::Ok,
         "-377705116800 946684800 0 0 X\n",
     ),
     ("info C B 0", Status::NoZone, "nozone\n"),
-    ("info U A 0", Status::Text, "text 2 23\n"),
+    ("info emptyline A 0", Status::Text, "text 2 23\n"),
     ("info W A 0", Status::Text, "text 1 19\n"),
     ("info Missing America/New_York 0", Status::Read, "read\n"),
     ("info - America/New_York 0", Status::Read, "read\n"),
@@ -77,9 +99,112 @@ const INFO: [(&str, Status, &str); 27] = [
     ("", Status::Usage, "usage\n"),
 ];
 
-const CHECK: [(&str, Status, &str); 11] = [
+/// Instants of New York, by two names of its zone, and the lines of the ranges that hold them. The first two are the very
+/// second of a change and the second before it.
+const NEW_YORK: [(&str, &str); 10] = [
     (
-        "check E",
+        "America/New_York 1710054000",
+        "1710054000 1730613600 -14400 3600 EDT\n",
+    ),
+    (
+        "America/New_York 1710053999",
+        "1699164000 1710054000 -18000 0 EST\n",
+    ),
+    (
+        "US/Eastern 1710053999",
+        "1699164000 1710054000 -18000 0 EST\n",
+    ),
+    (
+        "US/Eastern -377705116800",
+        "-377705116800 -2717650800 -17762 0 LMT\n",
+    ),
+    (
+        "America/New_York -2717650801",
+        "-377705116800 -2717650800 -17762 0 LMT\n",
+    ),
+    (
+        "America/New_York -2717650800",
+        "-2717650800 -84387600 -18000 0 EST\n",
+    ),
+    (
+        "America/New_York -84387601",
+        "-2717650800 -84387600 -18000 0 EST\n",
+    ),
+    (
+        "America/New_York -84387600",
+        "-84387600 -68666400 -14400 3600 EDT\n",
+    ),
+    ("America/New_York 0", "-5767200 9961200 -18000 0 EST\n"),
+    (
+        "America/New_York 253402300799",
+        "253365516000 253402300800 -18000 0 EST\n",
+    ),
+];
+
+/// Zones of one text each: a save below zero, a rule at the very end of a line, and a day in the next month.
+const ZONES: [(&str, Status, &str); 13] = [
+    (
+        "info E Europe/Dublin 1704067200",
+        Status::Ok,
+        "1698541200 1711846800 0 -3600 GMT\n",
+    ),
+    (
+        "info E Europe/Dublin 354675599",
+        Status::Ok,
+        "-377705116800 354675600 3600 0 IST\n",
+    ),
+    (
+        "info E Europe/Dublin 354675600",
+        Status::Ok,
+        "354675600 386125200 3600 0 IST\n",
+    ),
+    (
+        "info U Test/Until 0",
+        Status::Ok,
+        "-377705116800 954550800 3600 0 AST\n",
+    ),
+    (
+        "info U Test/Until 954550800",
+        Status::Ok,
+        "954550800 970358400 7200 3600 ADT\n",
+    ),
+    (
+        "info U Test/Until 1285891199",
+        Status::Ok,
+        "1270083600 1285891200 7200 3600 ADT\n",
+    ),
+    (
+        "info U Test/Until 1285891200",
+        Status::Ok,
+        "1285891200 253402300800 7200 0 B\n",
+    ),
+    (
+        "info O Test/Oct 0",
+        Status::Ok,
+        "-377705116800 1635638400 0 0 TT\n",
+    ),
+    (
+        "info O Test/Oct 1640000000",
+        Status::Ok,
+        "1635638400 1667692800 3600 3600 TXT\n",
+    ),
+    (
+        "info O Test/Oct 1667692800",
+        Status::Ok,
+        "1667692800 253402300800 3600 3600 TXT\n",
+    ),
+    (
+        "info A America/New_York 253402300800",
+        Status::Range,
+        "range\n",
+    ),
+    ("info A US/Eastern -377705116801", Status::Range, "range\n"),
+    ("info A US/eastern 0", Status::NoZone, "nozone\n"),
+];
+
+const CHECK: [(&str, Status, &str); 18] = [
+    (
+        "check empty",
         Status::Ok,
         "ok unknown rules 0 zones 0 links 0\n",
     ),
@@ -94,7 +219,30 @@ const CHECK: [(&str, Status, &str); 11] = [
         "ok unknown rules 0 zones 1 links 0\n",
     ),
     ("check W", Status::Text, "text 1 19\n"),
-    ("check A", Status::Text, "text 11 0\n"),
+    ("check A", Status::Ok, "ok 2024a rules 8 zones 1 links 1\n"),
+    ("check Z", Status::Ok, "ok 2024a rules 8 zones 1 links 1\n"),
+    ("check B", Status::Ok, "ok 2024b rules 8 zones 1 links 1\n"),
+    (
+        "check E",
+        Status::Ok,
+        "ok unknown rules 2 zones 1 links 0\n",
+    ),
+    (
+        "check U",
+        Status::Ok,
+        "ok unknown rules 2 zones 1 links 0\n",
+    ),
+    (
+        "check O",
+        Status::Ok,
+        "ok unknown rules 1 zones 1 links 0\n",
+    ),
+    (
+        "check several",
+        Status::Ok,
+        "ok unknown rules 0 zones 4 links 1\n",
+    ),
+    ("check emptyline", Status::Text, "text 2 23\n"),
     ("check Missing", Status::Read, "read\n"),
     ("check -", Status::Read, "read\n"),
     ("check", Status::Usage, "usage\n"),
@@ -119,7 +267,7 @@ const CLOCK: [(&str, Status, &str); 62] = [
     ("clock - utc-tai 0", Status::Ok, "378691210\n"),
     ("clock - utc-sys 253402300800", Status::Range, "range\n"),
     ("clock - utc-info 0", Status::Ok, "plain 0\n"),
-    ("clock E utc-gps 0", Status::Ok, "-315964809\n"),
+    ("clock empty utc-gps 0", Status::Ok, "-315964809\n"),
     ("clock Missing sys-utc 0", Status::Read, "read\n"),
     ("clock Missing sys-utc", Status::Usage, "usage\n"),
     ("clock L27 sys-utc 0 0", Status::Usage, "usage\n"),
@@ -285,13 +433,14 @@ const PARTS: [(&str, usize, &str); 7] = [
         37,
         "-2717650800 253402300800 -18000 0 EST",
     ),
-    ("check E", 5, "ok un"),
+    ("check empty", 5, "ok un"),
     ("check Missing", 3, "rea"),
     ("clock twice sys-utc 0", 7, "leaps 2"),
     ("clock", 2, "us"),
 ];
 
-fn files(alloc: Global) -> Result<MemoryFiles, AllocError> {
+/// The texts, each in the file of its name.
+pub fn named_files(alloc: Global) -> Result<MemoryFiles, AllocError> {
     let mut list = Vec::new(alloc);
     for (name, text) in TEXTS {
         let name = format!(in alloc; "{name}")?;
@@ -301,14 +450,14 @@ fn files(alloc: Global) -> Result<MemoryFiles, AllocError> {
 }
 
 fn answers(
-    rt: &impl Abort,
+    rt: &(impl Abort + Threads + Sync),
     alloc: Global,
     rows: &[(&str, Status, &str)],
 ) -> Result<(), AllocError> {
-    let mut files = files(alloc)?;
+    let mut files = named_files(alloc)?;
     for (line, status, printed) in rows {
         for piece in [1, 64] {
-            let (answer, taken) = run(alloc, &mut files, line, piece, 4_096)?;
+            let (answer, taken) = run(rt, alloc, &mut files, line, piece, 4_096)?;
             assert_eq!(rt; answer, Plain::Done(*status), "{line}");
             assert_eq!(rt; taken.as_slice(), printed.as_bytes(), "{line}");
         }
@@ -319,17 +468,34 @@ fn answers(
 #[test]
 fn answers_each_row(rt: HostRuntime) -> Result<(), Fail> {
     answers(&rt, rt.alloc(), INFO.as_slice())?;
+    answers(&rt, rt.alloc(), ZONES.as_slice())?;
     answers(&rt, rt.alloc(), CHECK.as_slice())?;
     answers(&rt, rt.alloc(), CLOCK.as_slice())?;
     answers(&rt, rt.alloc(), ENDS.as_slice())?;
     Ok(())
 }
 
+/// The long, the later and the compact spelling of one zone tell the same of it.
+#[test]
+fn texts_of_one_zone_agree(rt: HostRuntime) -> Result<(), Fail> {
+    let alloc = rt.alloc();
+    let mut files = named_files(alloc)?;
+    for text in ["A", "B", "Z"] {
+        for (asked, printed) in NEW_YORK {
+            let line = format!(in alloc; "info {text} {asked}")?;
+            let (answer, taken) = run(&rt, alloc, &mut files, line.as_str(), 64, 4_096)?;
+            assert_eq!(rt; answer, Plain::Done(Status::Ok), "{line}");
+            assert_eq!(rt; taken.as_slice(), printed.as_bytes(), "{line}");
+        }
+    }
+    Ok(())
+}
+
 #[test]
 fn writes_a_part(rt: HostRuntime) -> Result<(), Fail> {
-    let mut files = files(rt.alloc())?;
+    let mut files = named_files(rt.alloc())?;
     for (line, room, printed) in PARTS {
-        let (answer, taken) = run(rt.alloc(), &mut files, line, 64, room)?;
+        let (answer, taken) = run(&rt, rt.alloc(), &mut files, line, 64, room)?;
         assert_eq!(rt; answer, Plain::Done(Status::Write), "{line}");
         assert_eq!(rt; taken.as_slice(), printed.as_bytes(), "{line}");
     }

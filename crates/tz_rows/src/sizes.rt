@@ -1,15 +1,22 @@
 //! Texts that are too large, or have too long a line, too many lines or too many records.
 use crate::outside::{files_of, run};
 use std::alloc::{AllocError, Global};
+use std::process::Abort;
 use std::test::Fail;
+use std::thread::Threads;
 use tz_cli::{Plain, Status};
 
 /// What a command answers over one text, which is the file `L`, and what it writes.
-fn answer_to(alloc: Global, text: Vec<u8>, line: &str) -> Result<(Plain, Vec<u8>), AllocError> {
+fn answer_to(
+    rt: &(impl Threads + Sync),
+    alloc: Global,
+    text: Vec<u8>,
+    line: &str,
+) -> Result<(Plain, Vec<u8>), AllocError> {
     let mut list = Vec::new(alloc);
     list.push((format!(in alloc; "L")?, text))?;
     let mut files = files_of(alloc, list)?;
-    run(alloc, &mut files, line, 64, 4_096)
+    run(rt, alloc, &mut files, line, 64, 4_096)
 }
 
 /// Blank lines of 64 bytes, cut off after `length` bytes.
@@ -40,6 +47,54 @@ fn leap_lines(alloc: Global, count: u32) -> Result<Vec<u8>, AllocError> {
     Ok(text)
 }
 
+/// A line with so many times the letter in the place of `@`.
+fn with_letters(
+    alloc: Global,
+    before: &str,
+    letters: usize,
+    after: &str,
+) -> Result<Vec<u8>, AllocError> {
+    let mut text = before.as_bytes().to_vec(alloc)?;
+    text.extend_from_slice(vec![in alloc; b'A'; letters]?.as_slice())?;
+    text.extend_from_slice(after.as_bytes())?;
+    Ok(text)
+}
+
+/// So many lines, each with its number in the place between the two parts.
+fn numbered(alloc: Global, before: &str, lines: u32, after: &str) -> Result<Vec<u8>, AllocError> {
+    let mut text = Vec::new(alloc);
+    for number in 0..lines {
+        let line = format!(in alloc; "{before}{number}{after}\n")?;
+        text.extend_from_slice(line.as_bytes())?;
+    }
+    Ok(text)
+}
+
+/// Lines with one more before them.
+fn first(alloc: Global, line: &str, lines: Vec<u8>) -> Result<Vec<u8>, AllocError> {
+    let mut text = line.as_bytes().to_vec(alloc)?;
+    text.extend_from_slice(lines.as_slice())?;
+    Ok(text)
+}
+
+/// Lines with one more behind them.
+fn last(lines: Vec<u8>, line: &str) -> Result<Vec<u8>, AllocError> {
+    let mut text = lines;
+    text.extend_from_slice(line.as_bytes())?;
+    Ok(text)
+}
+
+/// A zone of so many lines.
+fn long_zone(alloc: Global, lines: u32) -> Result<Vec<u8>, AllocError> {
+    let mut text = b"Zone A 0 - X 1000\n".to_vec(alloc)?;
+    for year in 1_001..999 + u64::from(lines) {
+        let line = format!(in alloc; "0 - X {year}\n")?;
+        text.extend_from_slice(line.as_bytes())?;
+    }
+    text.extend_from_slice(b"0 - X\n")?;
+    Ok(text)
+}
+
 #[test]
 fn a_file_too_large_is_told(rt: HostRuntime) -> Result<(), Fail> {
     // No fault but the length: the same lines, a byte shorter, are a text without zones and records.
@@ -53,10 +108,20 @@ fn a_file_too_large_is_told(rt: HostRuntime) -> Result<(), Fail> {
         ("clock L sys-utc 7", Status::Ok, "7\n"),
     ];
     for (line, status, printed) in cases {
-        let (answer, taken) = answer_to(rt.alloc(), blank_lines(rt.alloc(), 4_194_304)?, line)?;
+        let (answer, taken) = answer_to(
+            &rt,
+            rt.alloc(),
+            blank_lines(rt.alloc(), 4_194_304)?,
+            line,
+        )?;
         assert_eq!(rt; answer, Plain::Done(status), "{line}");
         assert_eq!(rt; taken.as_slice(), printed.as_bytes(), "{line}");
-        let (answer, taken) = answer_to(rt.alloc(), blank_lines(rt.alloc(), 4_194_305)?, line)?;
+        let (answer, taken) = answer_to(
+            &rt,
+            rt.alloc(),
+            blank_lines(rt.alloc(), 4_194_305)?,
+            line,
+        )?;
         assert_eq!(rt; answer, Plain::Done(Status::TooLarge), "{line}");
         assert_eq!(rt; taken.as_slice(), b"toolarge\n".as_slice(), "{line}");
     }
@@ -79,9 +144,151 @@ fn leap_texts_have_limits(rt: HostRuntime) -> Result<(), Fail> {
         ),
     ];
     for (text, status, printed) in cases {
-        let (answer, taken) = answer_to(alloc, text, "clock L sys-utc 0")?;
+        let (answer, taken) = answer_to(&rt, alloc, text, "clock L sys-utc 0")?;
         assert_eq!(rt; answer, Plain::Done(status), "{printed}");
         assert_eq!(rt; taken.as_slice(), printed.as_bytes());
+    }
+    Ok(())
+}
+
+/// Asserts what `check` prints of a text.
+fn check_prints(
+    rt: &(impl Abort + Threads + Sync),
+    alloc: Global,
+    text: Vec<u8>,
+    printed: &str,
+) -> Result<(), AllocError> {
+    let status = if printed.starts_with("ok") {
+        Status::Ok
+    } else {
+        Status::Text
+    };
+    let (answer, taken) = answer_to(rt, alloc, text, "check L")?;
+    assert_eq!(rt; taken.as_slice(), printed.as_bytes(), "{printed}");
+    assert_eq!(rt; answer, Plain::Done(status), "{printed}");
+    Ok(())
+}
+
+#[test]
+fn lines_have_limits(rt: HostRuntime) -> Result<(), Fail> {
+    let alloc = rt.alloc();
+    let none = "ok unknown rules 0 zones 0 links 0\n";
+    let one = "ok unknown rules 0 zones 1 links 0\n";
+    let cases = [
+        (with_letters(alloc, "#", 2_046, "\n")?, none),
+        (with_letters(alloc, "#", 2_047, "\n")?, "text 1 1\n"),
+        (with_letters(alloc, "#", 2_047, "")?, "text 1 1\n"),
+        (with_letters(alloc, "Zone ", 255, " 0 - X\n")?, one),
+        (
+            with_letters(alloc, "Zone ", 256, " 0 - X\n")?,
+            "text 1 18\n",
+        ),
+        (
+            with_letters(alloc, "Zone A 0 ", 255, " X\n")?,
+            "text 1 20\n",
+        ),
+        (
+            with_letters(alloc, "Zone A 0 ", 256, " X\n")?,
+            "text 1 18\n",
+        ),
+        (with_letters(alloc, "Zone A 0 - ", 24, "\n")?, one),
+        (with_letters(alloc, "Zone A 0 - ", 25, "\n")?, "text 1 15\n"),
+        (vec![in alloc; b'\n'; 100_000]?, none),
+        (vec![in alloc; b'\n'; 100_001]?, "text 100001 18\n"),
+        (last(vec![in alloc; b'\n'; 99_999]?, "Zone A 0 - X")?, one),
+        // Where a line is one too many and has a lesser cause, that is told.
+        (
+            last(vec![in alloc; b'\n'; 100_000]?, "Foo")?,
+            "text 100001 4\n",
+        ),
+    ];
+    for (text, printed) in cases {
+        check_prints(&rt, alloc, text, printed)?;
+    }
+    Ok(())
+}
+
+#[test]
+fn rules_have_limits(rt: HostRuntime) -> Result<(), Fail> {
+    let alloc = rt.alloc();
+    let cases = [
+        (
+            numbered(alloc, "Rule US ", 512, " max - Mar 1 0 0 -")?,
+            "ok unknown rules 512 zones 0 links 0\n",
+        ),
+        (
+            numbered(alloc, "Rule US ", 513, " max - Mar 1 0 0 -")?,
+            "text 513 18\n",
+        ),
+        (
+            numbered(alloc, "Rule US", 1_024, " 1 max - Mar 1 0 0 -")?,
+            "ok unknown rules 1024 zones 0 links 0\n",
+        ),
+        (
+            numbered(alloc, "Rule US", 1_025, " 1 max - Mar 1 0 0 -")?,
+            "text 1025 18\n",
+        ),
+        // Another set has room, and so has a set that is there already.
+        (
+            last(
+                numbered(alloc, "Rule US ", 512, " max - Mar 1 0 0 -")?,
+                "Rule EU 1 max - Mar 1 0 0 -\n",
+            )?,
+            "ok unknown rules 513 zones 0 links 0\n",
+        ),
+        (
+            last(
+                numbered(alloc, "Rule US", 1_024, " 1 max - Mar 1 0 0 -")?,
+                "Rule US7 1 max - Mar 1 0 0 -\n",
+            )?,
+            "ok unknown rules 1025 zones 0 links 0\n",
+        ),
+    ];
+    for (text, printed) in cases {
+        check_prints(&rt, alloc, text, printed)?;
+    }
+    Ok(())
+}
+
+#[test]
+fn zones_and_links_have_limits(rt: HostRuntime) -> Result<(), Fail> {
+    let alloc = rt.alloc();
+    let one = "ok unknown rules 0 zones 1 links 0\n";
+    let cases = [
+        (
+            numbered(alloc, "Zone A", 1_024, " 0 - X")?,
+            "ok unknown rules 0 zones 1024 links 0\n",
+        ),
+        (
+            numbered(alloc, "Zone A", 1_025, " 0 - X")?,
+            "text 1025 18\n",
+        ),
+        (long_zone(alloc, 255)?, one),
+        (long_zone(alloc, 256)?, "text 256 18\n"),
+        (
+            last(long_zone(alloc, 255)?, "Zone B 0 - X\n")?,
+            "ok unknown rules 0 zones 2 links 0\n",
+        ),
+        (
+            first(
+                alloc,
+                "Zone A 0 - X\n",
+                numbered(alloc, "Link A B", 4_096, "")?,
+            )?,
+            "ok unknown rules 0 zones 1 links 4096\n",
+        ),
+        (
+            first(
+                alloc,
+                "Zone A 0 - X\n",
+                numbered(alloc, "Link A B", 4_097, "")?,
+            )?,
+            "text 4098 18\n",
+        ),
+        (numbered(alloc, "Link A B", 4_096, "")?, "text 1 22\n"),
+    ];
+    for (text, printed) in cases {
+        check_prints(&rt, alloc, text, printed)?;
     }
     Ok(())
 }

@@ -20,11 +20,74 @@ Zone America/New_York -4:56:02 - LMT 1883 Nov 18 17:00u
 Link America/New_York US/Eastern
 ";
 
+/// The same of a later version.
+const TEXT_B: &str = "\
+# version 2024b
+Rule US 1967 2006 - Oct lastSun 2:00 0 S
+Rule US 1967 1973 - Apr lastSun 2:00 1:00 D
+Rule US 1974 only - Jan 6 2:00 1:00 D
+Rule US 1975 only - Feb lastSun 2:00 1:00 D
+Rule US 1976 1986 - Apr lastSun 2:00 1:00 D
+Rule US 1987 2006 - Apr Sun>=1 2:00 1:00 D
+Rule US 2007 max - Mar Sun>=8 2:00 1:00 D
+Rule US 2007 max - Nov Sun>=1 2:00 0 S
+Zone America/New_York -4:56:02 - LMT 1883 Nov 18 17:00u
+        -5:00 US E%sT
+Link America/New_York US/Eastern
+";
+
+/// The same rules in the compact spelling.
+const TEXT_Z: &str = "\
+# version 2024a
+# This zic input file is in the public domain.
+R u 1967 2006 - O lastSu 2 0 S
+R u 1967 1973 - Ap lastSu 2 1 D
+R u 1974 o - Ja 6 2 1 D
+R u 1975 o - F lastSu 2 1 D
+R u 1976 1986 - Ap lastSu 2 1 D
+R u 1987 2006 - Ap Su>=1 2 1 D
+R u 2007 ma - Mar Su>=8 2 1 D
+R u 2007 ma - N Su>=1 2 0 S
+Z America/New_York -4:56:2 - LMT 1883 N 18 17u
+-5 u E%sT
+L America/New_York US/Eastern
+";
+
+/// A save below zero in winter.
+const TEXT_E: &str = "\
+Rule Eire 1981 max - Mar lastSun 1:00u 0 -
+Rule Eire 1996 max - Oct lastSun 1:00u -1:00 -
+Zone Europe/Dublin 1:00 Eire IST/GMT
+";
+
+/// A rule that takes effect at the very end of a line.
+const TEXT_U: &str = "\
+Rule T 2000 max - Apr 1 2:00 1:00 D
+Rule T 2000 max - Oct 1 2:00 0 S
+Zone Test/Until 1:00 T A%sT 2010 Oct 1 2:00
+        2:00 - B
+";
+
+/// A day that may lie in the next month.
+const TEXT_O: &str = "\
+Rule O 2021 2022 - Oct Sun>=31 0:00u 1:00 X
+Zone Test/Oct 0:00 O T%sT
+";
+
+/// Zones that don't stand in the order of their names, one of them named as the word for all zones, and a link.
+const SEVERAL: &str = "\
+Zone B 0 - b
+Zone a 1 - c
+Link B L
+Zone A -1 1:00 d/e
+Zone - 2 - %z
+";
+
 /// A standard offset of a day, on a last line without a newline.
 const TEXT_D: &str = "Zone\tFar/East 24 - DAY";
 
 /// A line whose end comes at its start.
-const TEXT_U: &str = "Zone A 0 - X 2000 Jan 1 0u\n0 - Y 2000 Jan 1 0u\n0 - Z\n";
+const EMPTY_LINE: &str = "Zone A 0 - X 2000 Jan 1 0u\n0 - Y 2000 Jan 1 0u\n0 - Z\n";
 
 /// An UNTIL whose time ends with a capital letter, which is a suffix like the small one.
 const TEXT_C: &str = "Zone A 0 - X 2000 Jan 1 0U\n0 - Z\n";
@@ -88,14 +151,20 @@ const EARLY: &str = "Expires 2016 Dec 31 00:00:00\nLeap 2016 Dec 31 23:59:60 + S
 const BELOW: &str = "Leap 1969 Dec 31 23:59:59 - S\nLeap 1969 Dec 30 23:59:59 - S\n";
 
 /// Each text by the name that rows call it.
-pub const TEXTS: [(&str, &str); 24] = [
+pub const TEXTS: [(&str, &str); 30] = [
     ("N", TEXT_N),
     ("A", TEXT_A),
+    ("B", TEXT_B),
+    ("Z", TEXT_Z),
+    ("E", TEXT_E),
+    ("U", TEXT_U),
+    ("O", TEXT_O),
+    ("several", SEVERAL),
     ("D", TEXT_D),
     ("C", TEXT_C),
-    ("U", TEXT_U),
+    ("emptyline", EMPTY_LINE),
     ("W", TEXT_W),
-    ("E", ""),
+    ("empty", ""),
     ("L27", LEAPS),
     ("nul", "#\0\n"),
     ("quote", "Leap \"2016\n"),
