@@ -351,6 +351,9 @@ fn all_zones_are_dumped_in_order(rt: HostRuntime) -> Result<(), Fail> {
 fn a_first_part_of_a_dump_is_taken(rt: HostRuntime) -> Result<(), Fail> {
     let alloc = rt.alloc();
     let mut files = named_files(alloc)?;
+    // Nothing is due of a text without zones, so a sink without room has taken all.
+    let (answer, _) = run(&rt, alloc, &mut files, "dump empty 0 1 -", 1, 0)?;
+    assert_eq!(rt; answer, Plain::Done(Status::Ok));
     let line = "dump several 0 1 -";
     for room in 0..SEVERAL.len() {
         for piece in [0, 1, 7, 4_096] {
@@ -377,7 +380,7 @@ fn a_write_fails_in_a_dump(rt: HostRuntime) -> Result<(), Fail> {
     assert_eq!(rt; answer, Plain::Done(Status::Ok));
     let mut last = 0;
     for failing in [
-        1, 2, 3, 10, 50, 51, 52, 53, 54, 55, 56, 57, 58, 59, 60, 100, 120,
+        1, 2, 3, 10, 40, 50, 51, 52, 53, 54, 55, 56, 57, 58, 59, 60, 100,
     ] {
         let mut numbers = Vec::new(alloc);
         numbers.push(failing)?;

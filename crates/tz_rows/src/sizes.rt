@@ -97,31 +97,25 @@ fn long_zone(alloc: Global, lines: u32) -> Result<Vec<u8>, AllocError> {
 
 #[test]
 fn a_file_too_large_is_told(rt: HostRuntime) -> Result<(), Fail> {
+    let alloc = rt.alloc();
     // No fault but the length: the same lines, a byte shorter, are a text without zones and records.
-    let cases = [
-        ("info L America/New_York 0", Status::NoZone, "nozone\n"),
-        (
-            "check L",
-            Status::Ok,
-            "ok unknown rules 0 zones 0 links 0\n",
-        ),
-        ("clock L sys-utc 7", Status::Ok, "7\n"),
+    let fitting = [
+        ("check L", "ok unknown rules 0 zones 0 links 0\n"),
+        ("clock L sys-utc 7", "7\n"),
     ];
-    for (line, status, printed) in cases {
-        let (answer, taken) = answer_to(
-            &rt,
-            rt.alloc(),
-            blank_lines(rt.alloc(), 4_194_304)?,
-            line,
-        )?;
-        assert_eq!(rt; answer, Plain::Done(status), "{line}");
+    for (line, printed) in fitting {
+        let (answer, taken) = answer_to(&rt, alloc, blank_lines(alloc, 4_194_304)?, line)?;
+        assert_eq!(rt; answer, Plain::Done(Status::Ok), "{line}");
         assert_eq!(rt; taken.as_slice(), printed.as_bytes(), "{line}");
-        let (answer, taken) = answer_to(
-            &rt,
-            rt.alloc(),
-            blank_lines(rt.alloc(), 4_194_305)?,
-            line,
-        )?;
+    }
+    let lines = [
+        "check L",
+        "clock L sys-utc 7",
+        "info L Nowhere 253402300800",
+        "dump L 1 0 -",
+    ];
+    for line in lines {
+        let (answer, taken) = answer_to(&rt, alloc, blank_lines(alloc, 4_194_305)?, line)?;
         assert_eq!(rt; answer, Plain::Done(Status::TooLarge), "{line}");
         assert_eq!(rt; taken.as_slice(), b"toolarge\n".as_slice(), "{line}");
     }
