@@ -1,5 +1,5 @@
 //! Dumps: the ranges of one zone or of all zones that meet a stretch of time.
-use crate::outside::{files_of, run, run_into};
+use crate::outside::{one_file, run, run_into};
 use crate::rows::named_files;
 use std::alloc::{AllocError, Global};
 use std::str;
@@ -307,9 +307,7 @@ fn many_zones(alloc: Global, count: u32) -> Result<MemoryFiles, AllocError> {
         let line = format!(in alloc; "Zone Zone{number:03} {} S G%sT\n", number % 25)?;
         text.extend_from_slice(line.as_bytes())?;
     }
-    let mut list = Vec::new(alloc);
-    list.push((format!(in alloc; "T")?, text))?;
-    files_of(alloc, list)
+    one_file(alloc, text)
 }
 
 /// What the dumps of so many zones print, each asked for by its name, one after another.

@@ -1,5 +1,5 @@
 //! Links: what they lead to, and where they lead nowhere.
-use crate::outside::{files_of, run};
+use crate::outside::answer_over;
 use std::alloc::{AllocError, Global};
 use std::process::Abort;
 use std::test::Fail;
@@ -79,19 +79,7 @@ const ASTRAY: [(&str, &str); 24] = [
     ("Link A B\nLink Nowhere A\nZone A 0 - a\n", "text 2 22\n"),
 ];
 
-/// What a command answers over one text, which is the file `T`, and what it writes.
-fn answer_to(
-    rt: &(impl Threads + Sync),
-    alloc: Global,
-    text: &[u8],
-    line: &str,
-) -> Result<(Plain, Vec<u8>), AllocError> {
-    let mut list = Vec::new(alloc);
-    list.push((format!(in alloc; "T")?, text.to_vec(alloc)?))?;
-    let mut files = files_of(alloc, list)?;
-    run(rt, alloc, &mut files, line, 4_096, 4_096)
-}
-
+/// Asserts what a command prints of a text, and how it ends.
 fn prints(
     rt: &(impl Abort + Threads + Sync),
     alloc: Global,
@@ -100,7 +88,7 @@ fn prints(
     status: Status,
     printed: &str,
 ) -> Result<(), AllocError> {
-    let (answer, taken) = answer_to(rt, alloc, text, line)?;
+    let (answer, taken) = answer_over(rt, alloc, text.to_vec(alloc)?, line)?;
     assert_eq!(rt; taken.as_slice(), printed.as_bytes(), "{line} {printed}");
     assert_eq!(rt; answer, Plain::Done(status), "{line} {printed}");
     Ok(())
