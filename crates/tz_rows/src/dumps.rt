@@ -1,5 +1,5 @@
 //! Dumps: the ranges of one zone or of all zones that meet a stretch of time.
-use crate::outside::{files_of, run, run_into};
+use crate::outside::{one_file, run, run_into};
 use crate::rows::named_files;
 use std::alloc::{AllocError, Global};
 use std::str;
@@ -307,9 +307,7 @@ fn many_zones(alloc: Global, count: u32) -> Result<MemoryFiles, AllocError> {
         let line = format!(in alloc; "Zone Zone{number:03} {} S G%sT\n", number % 25)?;
         text.extend_from_slice(line.as_bytes())?;
     }
-    let mut list = Vec::new(alloc);
-    list.push((format!(in alloc; "T")?, text))?;
-    files_of(alloc, list)
+    one_file(alloc, text)
 }
 
 /// What the dumps of so many zones print, each asked for by its name, one after another.
@@ -351,6 +349,9 @@ fn all_zones_are_dumped_in_order(rt: HostRuntime) -> Result<(), Fail> {
 fn a_first_part_of_a_dump_is_taken(rt: HostRuntime) -> Result<(), Fail> {
     let alloc = rt.alloc();
     let mut files = named_files(alloc)?;
+    // Nothing is due of a text without zones, so a sink without room has taken all.
+    let (answer, _) = run(&rt, alloc, &mut files, "dump empty 0 1 -", 1, 0)?;
+    assert_eq!(rt; answer, Plain::Done(Status::Ok));
     let line = "dump several 0 1 -";
     for room in 0..SEVERAL.len() {
         for piece in [0, 1, 7, 4_096] {
@@ -377,7 +378,7 @@ fn a_write_fails_in_a_dump(rt: HostRuntime) -> Result<(), Fail> {
     assert_eq!(rt; answer, Plain::Done(Status::Ok));
     let mut last = 0;
     for failing in [
-        1, 2, 3, 10, 50, 51, 52, 53, 54, 55, 56, 57, 58, 59, 60, 100, 120,
+        1, 2, 3, 10, 40, 50, 51, 52, 53, 54, 55, 56, 57, 58, 59, 60, 100,
     ] {
         let mut numbers = Vec::new(alloc);
         numbers.push(failing)?;

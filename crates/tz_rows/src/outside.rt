@@ -13,6 +13,13 @@ pub fn files_of(alloc: Global, list: Vec<(String, Vec<u8>)>) -> Result<MemoryFil
     }
 }
 
+/// The one file `T`, of that content.
+pub fn one_file(alloc: Global, text: Vec<u8>) -> Result<MemoryFiles, AllocError> {
+    let mut list = Vec::new(alloc);
+    list.push((format!(in alloc; "T")?, text))?;
+    files_of(alloc, list)
+}
+
 /// What a command answers over the files, where it writes into that sink.
 pub fn run_into(
     rt: &(impl Threads + Sync),
@@ -43,4 +50,15 @@ pub fn run(
     };
     let answer = run_into(rt, alloc, files, line, &mut sink)?;
     Ok((answer, sink.taken().to_vec(alloc)?))
+}
+
+/// What a command answers over one text, which is the file `T`, and what it writes.
+pub fn answer_over(
+    rt: &(impl Threads + Sync),
+    alloc: Global,
+    text: Vec<u8>,
+    line: &str,
+) -> Result<(Plain, Vec<u8>), AllocError> {
+    let mut files = one_file(alloc, text)?;
+    run(rt, alloc, &mut files, line, 4_096, 4_096)
 }

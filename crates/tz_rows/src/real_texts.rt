@@ -1,12 +1,11 @@
 //! Texts that the machine may have. Where it has none, nothing is tested.
-use crate::outside::{files_of, run};
+use crate::outside::{one_file, run};
 use std::alloc::{AllocError, Global};
 use std::cmp::Ordering;
 use std::process::Abort;
 use std::test::Fail;
 use std::{fs, str};
 use tz_cli::{Plain, Status};
-use tz_io::MemoryFiles;
 use tz_lines::read_leaps;
 use tz_text::{Fields, Joined, amount, named, on, signed_number, year};
 
@@ -62,13 +61,6 @@ fn lines_with(text: &str, start: &str) -> usize {
     text.lines().filter(|line| line.starts_with(start)).count()
 }
 
-/// The file `T` of a text.
-fn file_of(alloc: Global, text: &str) -> Result<MemoryFiles, AllocError> {
-    let mut list = Vec::new(alloc);
-    list.push((format!(in alloc; "T")?, text.as_bytes().to_vec(alloc)?))?;
-    files_of(alloc, list)
-}
-
 #[test]
 fn a_real_text_is_counted(rt: HostRuntime) -> Result<(), Fail> {
     if !fs::exists(&rt, ZONES)? {
@@ -82,7 +74,7 @@ fn a_real_text_is_counted(rt: HostRuntime) -> Result<(), Fail> {
     let links = lines_with(text.as_str(), "L ");
     let alloc = rt.alloc();
     let printed = format!(in alloc; "ok {version} rules {rules} zones {zones} links {links}\n")?;
-    let mut files = file_of(alloc, text.as_str())?;
+    let mut files = one_file(alloc, text.as_bytes().to_vec(alloc)?)?;
     let (answer, taken) = run(&rt, alloc, &mut files, "check T", 64, 4_096)?;
     assert_eq!(rt; taken.as_slice(), printed.as_bytes());
     assert_eq!(rt; answer, Plain::Done(Status::Ok));
@@ -137,7 +129,7 @@ fn a_real_text_is_dumped_without_gaps(rt: HostRuntime) -> Result<(), Fail> {
     }
     let alloc = rt.alloc();
     let text = fs::read_to_string(&rt, ZONES)?;
-    let mut files = file_of(alloc, text.as_str())?;
+    let mut files = one_file(alloc, text.as_bytes().to_vec(alloc)?)?;
     // From 1900 to 2100.
     let (from, to) = (-2_208_988_800, 4_102_444_800);
     let line = format!(in alloc; "dump T {from} {to} -")?;

@@ -425,7 +425,7 @@ const ENDS: [(&str, Status, &str); 28] = [
 ];
 
 /// What a sink takes that has room for few bytes.
-const PARTS: [(&str, usize, &str); 7] = [
+const PARTS: [(&str, usize, &str); 10] = [
     ("info N America/New_York 0", 0, ""),
     ("check A", 0, ""),
     (
@@ -437,6 +437,9 @@ const PARTS: [(&str, usize, &str); 7] = [
     ("check Missing", 3, "rea"),
     ("clock twice sys-utc 0", 7, "leaps 2"),
     ("clock", 2, "us"),
+    ("dump A 0 0 -", 3, "ran"),
+    ("dump A 0 1 Nowhere", 6, "nozone"),
+    ("dump W 0 1 -", 0, ""),
 ];
 
 /// The texts, each in the file of its name.

@@ -1,23 +1,10 @@
 //! Texts that are too large, or have too long a line, too many lines or too many records.
-use crate::outside::{files_of, run};
+use crate::outside::answer_over;
 use std::alloc::{AllocError, Global};
 use std::process::Abort;
 use std::test::Fail;
 use std::thread::Threads;
 use tz_cli::{Plain, Status};
-
-/// What a command answers over one text, which is the file `L`, and what it writes.
-fn answer_to(
-    rt: &(impl Threads + Sync),
-    alloc: Global,
-    text: Vec<u8>,
-    line: &str,
-) -> Result<(Plain, Vec<u8>), AllocError> {
-    let mut list = Vec::new(alloc);
-    list.push((format!(in alloc; "L")?, text))?;
-    let mut files = files_of(alloc, list)?;
-    run(rt, alloc, &mut files, line, 64, 4_096)
-}
 
 /// Blank lines of 64 bytes, cut off after `length` bytes.
 fn blank_lines(alloc: Global, length: usize) -> Result<Vec<u8>, AllocError> {
@@ -97,31 +84,25 @@ fn long_zone(alloc: Global, lines: u32) -> Result<Vec<u8>, AllocError> {
 
 #[test]
 fn a_file_too_large_is_told(rt: HostRuntime) -> Result<(), Fail> {
+    let alloc = rt.alloc();
     // No fault but the length: the same lines, a byte shorter, are a text without zones and records.
-    let cases = [
-        ("info L America/New_York 0", Status::NoZone, "nozone\n"),
-        (
-            "check L",
-            Status::Ok,
-            "ok unknown rules 0 zones 0 links 0\n",
-        ),
-        ("clock L sys-utc 7", Status::Ok, "7\n"),
+    let fitting = [
+        ("check T", "ok unknown rules 0 zones 0 links 0\n"),
+        ("clock T sys-utc 7", "7\n"),
     ];
-    for (line, status, printed) in cases {
-        let (answer, taken) = answer_to(
-            &rt,
-            rt.alloc(),
-            blank_lines(rt.alloc(), 4_194_304)?,
-            line,
-        )?;
-        assert_eq!(rt; answer, Plain::Done(status), "{line}");
+    for (line, printed) in fitting {
+        let (answer, taken) = answer_over(&rt, alloc, blank_lines(alloc, 4_194_304)?, line)?;
+        assert_eq!(rt; answer, Plain::Done(Status::Ok), "{line}");
         assert_eq!(rt; taken.as_slice(), printed.as_bytes(), "{line}");
-        let (answer, taken) = answer_to(
-            &rt,
-            rt.alloc(),
-            blank_lines(rt.alloc(), 4_194_305)?,
-            line,
-        )?;
+    }
+    let lines = [
+        "check T",
+        "clock T sys-utc 7",
+        "info T Nowhere 253402300800",
+        "dump T 1 0 -",
+    ];
+    for line in lines {
+        let (answer, taken) = answer_over(&rt, alloc, blank_lines(alloc, 4_194_305)?, line)?;
         assert_eq!(rt; answer, Plain::Done(Status::TooLarge), "{line}");
         assert_eq!(rt; taken.as_slice(), b"toolarge\n".as_slice(), "{line}");
     }
@@ -144,7 +125,7 @@ fn leap_texts_have_limits(rt: HostRuntime) -> Result<(), Fail> {
         ),
     ];
     for (text, status, printed) in cases {
-        let (answer, taken) = answer_to(&rt, alloc, text, "clock L sys-utc 0")?;
+        let (answer, taken) = answer_over(&rt, alloc, text, "clock T sys-utc 0")?;
         assert_eq!(rt; answer, Plain::Done(status), "{printed}");
         assert_eq!(rt; taken.as_slice(), printed.as_bytes());
     }
@@ -163,7 +144,7 @@ fn check_prints(
     } else {
         Status::Text
     };
-    let (answer, taken) = answer_to(rt, alloc, text, "check L")?;
+    let (answer, taken) = answer_over(rt, alloc, text, "check T")?;
     assert_eq!(rt; taken.as_slice(), printed.as_bytes(), "{printed}");
     assert_eq!(rt; answer, Plain::Done(status), "{printed}");
     Ok(())

@@ -1,5 +1,5 @@
 //! Zone texts, each with the line that `check` prints of it.
-use crate::outside::{files_of, run};
+use crate::outside::answer_over;
 use std::alloc::{AllocError, Global};
 use std::process::Abort;
 use std::test::Fail;
@@ -254,18 +254,7 @@ const ACCEPTED: [(&str, &str); 28] = [
     ),
 ];
 
-/// What `check` answers of a text, and what it writes.
-fn checked(
-    rt: &(impl Threads + Sync),
-    alloc: Global,
-    text: &[u8],
-) -> Result<(Plain, Vec<u8>), AllocError> {
-    let mut list = Vec::new(alloc);
-    list.push((format!(in alloc; "T")?, text.to_vec(alloc)?))?;
-    let mut files = files_of(alloc, list)?;
-    run(rt, alloc, &mut files, "check T", 64, 4_096)
-}
-
+/// Asserts what `check` prints of a text.
 fn prints(
     rt: &(impl Abort + Threads + Sync),
     alloc: Global,
@@ -277,7 +266,7 @@ fn prints(
     } else {
         Status::Text
     };
-    let (answer, taken) = checked(rt, alloc, text)?;
+    let (answer, taken) = answer_over(rt, alloc, text.to_vec(alloc)?, "check T")?;
     assert_eq!(rt; taken.as_slice(), printed.as_bytes(), "{text:?}");
     assert_eq!(rt; answer, Plain::Done(status), "{text:?}");
     Ok(())
