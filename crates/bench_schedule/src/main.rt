@@ -81,7 +81,9 @@ fn events(alloc: std::alloc::Global, count: usize) -> io::Result<Vec<Event>> {
 fn sum_of(core: &Core) -> u64 {
     let mut sum = core.journal.len() as u64;
     for reader in core.readers.as_slice() {
-        sum = sum.wrapping_add(u64::from(reader.loads)).wrapping_add(u64::from(reader.pins));
+        sum = sum
+            .wrapping_add(u64::from(reader.loads))
+            .wrapping_add(u64::from(reader.pins));
     }
     for word in core.words.as_slice() {
         sum = sum.wrapping_add(u64::from(word.number));
