@@ -1,24 +1,23 @@
 -- What is at hand tells whether an event is allowed.
-use Rattle.std.proofs.Common.{◌≡◌, ◌≢◌, ◌↔◌, ℕ, zero, suc, ◌+◌, ◌-◌, ◌*◌, ◌≤◌, ◌<◌, ◌==◌, ◌&&◌, Bool, List, [], ◌∷◌, length, map, get_or, sym, refl, ap, ◌∙◌, subst, ⊎_elim, arith, not, eqb, ltb, true, false, Option, Some, None}
+use Rattle.std.proofs.Common.{◌≡◌, ◌≢◌, ◌↔◌, ℕ, zero, suc, ◌+◌, ◌<◌, ◌&&◌, Bool, List, [], ◌∷◌, length, sym, refl, ap, ◌∙◌, ⊎_elim, arith, not, ltb, true, false, Option, Some, None}
 use Rattle.std.specs.Prelude.{is_some, is_none}
 use Rattle.std.specs.List.{list_all}
 use mathlib.Core.Option.{some, some-injective, some-ne-none}
 use lib.ListN.{get_elem?}
-use Rattle.std.proofs.lemmas.Bool.{cases_eq, cases_Bool, both_ways, and_parts, and_from, not-true, not_from_false, eqb-true, eq-eqb, ltb-true, lt-ltb, false_from_ne_true}
+use Rattle.std.proofs.lemmas.Bool.{cases_eq, both_ways, and_parts, and_from, not-true, not_from_false, eqb-true, eq-eqb, ltb-true, lt-ltb, false_from_ne_true}
 use Rattle.std.proofs.lemmas.Option.{slice_get-get_or}
 use Rattle.pin_core.specs.declared.entry.Entry.{Entry}
 use Rattle.pin_core.specs.declared.view.View.{View}
 use Rattle.pin_core.specs.declared.view.Role.TheVariants as roles
-use Rattle.pin_core.specs.Replay.{Edition, ListState, state_after, front_of, is_listed, is_slot_listed, greatest_below, allowed}
-use Rattle.pin_core.specs.declared.write.Change.TheVariants.{Push, Erase}
-use Rattle.pin_core.specs.Core.{CoreState, front_number, is_taken, number_at, one_if, total, has_number, has_turn, held_count, stray_count, spent}
-use Rattle.pin_core.specs.Lawful.{Lawful, KnowsTurn}
-use Rattle.pin_core.specs.Step.{HasReader, MayPin, MayTake, MayTakeTurn, MayClaim, MayStore, MayGive}
+use Rattle.pin_core.specs.Replay.{ListState, state_after, is_listed, is_slot_listed, greatest_below, allowed}
+use Rattle.pin_core.specs.Core.{CoreState, front_number, is_taken, number_at, one_if, total, has_number, has_turn}
+use Rattle.pin_core.specs.Lawful.{KnowsTurn}
+use Rattle.pin_core.specs.Step.{HasReader, MayPin, MayTakeTurn, MayClaim, MayStore, MayGive}
 use Rattle.pin_core.proofs.Sums.{total_some, one_if-le, one_if-true, terms_le}
 use Rattle.pin_core.proofs.Seats.{is_live}
 use Rattle.pin_core.proofs.Stores.{has_own}
 use Rattle.pin_core.proofs.Readers.{named}
-use Rattle.pin_core.proofs.ReplayLemmas.{PushAsks, EraseAsks, erase_asks, replay_orderly}
+use Rattle.pin_core.proofs.ReplayLemmas.{erase_asks, replay_orderly}
 use Rattle.pin_core.proofs.BookLemmas.{asked_push, asked_erase}
 use Rattle.pin_schedule.specs.declared.core_reader.CoreReader.{CoreReader}
 use Rattle.pin_schedule.specs.declared.event.Event.{Event}
@@ -26,8 +25,8 @@ use Rattle.pin_schedule.specs.declared.event.Kind.{Kind}
 use Rattle.pin_schedule.specs.declared.event.Kind.TheVariants.{LoadFront, AddPin, TakePin, TakeTurn, Claim, StorePush, StoreErase, StoreTurn}
 use Rattle.pin_schedule.specs.Pin.{taken_place, has_place}
 use Rattle.pin_schedule.specs.Answer.{view_of, reader_of, claimed_by}
-use Rattle.pin_schedule.specs.Schedule.{IsAllowed, entry_at, MayTakeAt, next_write, push_of, erase_of, MayPush, MayMake}
-use Rattle.pin_schedule.specs.Progress.{Progress, reader_at, greatest_under, is_placed, is_numbered, is_turn_of, passes, placed_of, progress_of, IsPlayed, Stands}
+use Rattle.pin_schedule.specs.Schedule.{IsAllowed, MayTakeAt, next_write, push_of, erase_of, MayPush, MayMake}
+use Rattle.pin_schedule.specs.Progress.{Progress, reader_at, greatest_under, is_placed, is_numbered, is_turn_of, passes, progress_of, IsPlayed, Stands}
 use Rattle.pin_schedule.proofs.ListedLemmas.{slot_placed, number_placed, greatest_placed}
 use Rattle.pin_schedule.proofs.ViewLemmas.{reader_told, readers_long}
 use Rattle.pin_schedule.proofs.StepLemmas.{taken_there, claimed_mine}

@@ -6,5 +6,6 @@ pub mod AllowedLemmas
 pub mod MakeLemmas
 pub mod OpeningLemmas
 pub mod EventLemmas
+pub mod SplitLemmas
 pub mod RunLemmas
 pub mod PinLemmas

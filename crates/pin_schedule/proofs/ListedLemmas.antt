@@ -1,6 +1,5 @@
 -- Versions that are listed, as a course keeps them at hand.
-use Rattle.std.proofs.Common.{◌≡◌, ℕ, List, [], ◌∷◌, map, filter, fold, max, cond, true, false, not, eqb, ltb, ◌||◌, length, refl, ap, ◌∙◌, arith}
-use Rattle.std.specs.List.{list_any}
+use Rattle.std.proofs.Common.{◌≡◌, ℕ, List, [], ◌∷◌, map, filter, fold, max, cond, true, false, not, eqb, ltb, ◌||◌, refl, ap, arith}
 use Rattle.pin_core.specs.Replay.{Edition, greatest, greatest_below, is_listed, is_slot_listed}
 use Rattle.pin_schedule.specs.declared.placed.Placed.{Placed}
 use Rattle.pin_schedule.specs.Progress.{placed_of, greatest_under, is_placed, is_numbered, without}

@@ -1,27 +1,23 @@
 -- What a step may ask of what is kept at hand, and what it leaves of it.
-use Rattle.std.proofs.Common.{◌≡◌, ◌≢◌, ℕ, zero, suc, ◌+◌, ◌-◌, ◌*◌, ◌^◌, ◌≤◌, ◌<◌, ◌==◌, ◌⊎◌, List, [], ◌∷◌, ◌++◌, length, map, filter, set, get_or, take, sym, refl, ap, ◌∙◌, subst, ⊎_elim, arith, not, eqb, true, false, Option, Some, None}
+use Rattle.std.proofs.Common.{◌≡◌, ◌≢◌, ℕ, zero, suc, ◌+◌, ◌-◌, ◌^◌, ◌≤◌, ◌<◌, List, [], ◌∷◌, ◌++◌, length, map, set, take, sym, refl, ap, ◌∙◌, subst, ⊎_elim, arith, true, false, Option, Some, None}
 use Rattle.std.specs.Prelude.{is_some, IsSome, Result, OnOk, Ok, Err}
-use Rattle.std.specs.List.{remove, Contains}
-use Rattle.std.proofs.lemmas.Bool.{cases_Bool, cases_lt, cases_eq}
-use Rattle.std.proofs.lemmas.List.{length-map, length-append}
+use Rattle.std.specs.List.{remove}
+use Rattle.std.proofs.lemmas.Bool.{cases_Bool, cases_eq}
+use Rattle.std.proofs.lemmas.List.{length-map}
 use Rattle.std.proofs.lemmas.List.Elements.{Contains-get_or}
-use Rattle.std.proofs.lemmas.Option.{slice_get_within, get_or_from_slice_get}
-use Rattle.pin_core.specs.declared.entry.Entry.{Entry}
 use Rattle.pin_core.specs.declared.view.View.{View}
 use Rattle.pin_core.specs.declared.write.Write.{Write}
 use Rattle.pin_core.specs.declared.write.Change.TheVariants.{Push, Erase}
-use Rattle.pin_core.specs.declared.limits.TheConstants.{MOST_SLOTS, MOST_WRITES, READER_NUMBERS}
-use Rattle.pin_core.specs.Replay.{Edition, ListState, state_after, after_write, greatest_below, replays}
-use Rattle.pin_core.specs.Core.{CoreState, Front, front_number, front_slot, number_at, count_at, total, allowance_of, spent}
-use Rattle.pin_core.specs.Lawful.{Lawful, KnowsTurn}
-use Rattle.pin_core.specs.Step.{HasReader, MayPin, MayTake, MayTakeTurn, MayClaim, MayStore, MayGive, with_number}
+use Rattle.pin_core.specs.Replay.{ListState, state_after, after_write, greatest_below, replays}
+use Rattle.pin_core.specs.Core.{CoreState, Front, front_slot, count_at}
+use Rattle.pin_core.specs.Step.{HasReader, MayStore, with_number}
 use Rattle.pin_core.proofs.LawLemmas.{some_listed}
 use Rattle.pin_core.proofs.Seats.{is_live}
 use Rattle.pin_core.proofs.Loads.{seen_within}
 use Rattle.pin_core.proofs.Journals.{replays_take, replays_push, front_slot_inside}
 use Rattle.pin_core.proofs.ReplayLemmas.{state_after_push}
 use Rattle.pin_core.proofs.Packing.{count_small, front_small}
-use Rattle.pin_core.proofs.Readers.{counted, room_for}
+use Rattle.pin_core.proofs.Readers.{counted}
 use Rattle.pin_schedule.specs.declared.core_reader.CoreReader.{CoreReader}
 use Rattle.pin_schedule.specs.declared.event.Event.{Event}
 use Rattle.pin_schedule.specs.declared.event.Kind.{Kind}
@@ -29,7 +25,7 @@ use Rattle.pin_schedule.specs.declared.event.Kind.TheVariants.{LoadFront, AddPin
 use Rattle.pin_schedule.specs.declared.placed.Placed.{Placed}
 use Rattle.pin_schedule.specs.declared.limits.TheConstants.{MOST_EVENTS}
 use Rattle.pin_schedule.specs.Pin.{taken_place}
-use Rattle.pin_schedule.specs.Answer.{seat_of, view_of, reader_of, claimed_by}
+use Rattle.pin_schedule.specs.Answer.{view_of, reader_of, claimed_by}
 use Rattle.pin_schedule.specs.Schedule.{entry_at, MayTakeAt, next_write, push_of, erase_of, MayPush, push_into, MayMake, IsAllowed, after_kind, after_event}
 use Rattle.pin_schedule.specs.Progress.{Progress, reader_at, front_at, newest, word_at, counting, greatest_under, without, written, with_reader, with_pin, with_word, with_turn, with_claimed, with_write, HasReach, placed_of, seen_front, progress_of, IsPlayed, Stands, CanMake}
 use Rattle.pin_schedule.proofs.ListedLemmas.{greatest_placed, without_placed}

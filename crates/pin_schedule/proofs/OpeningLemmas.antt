@@ -1,5 +1,5 @@
 -- What is kept at hand before any event.
-use Rattle.std.proofs.Common.{◌≡◌, ℕ, zero, suc, ◌+◌, ◌*◌, ◌≤◌, ◌<◌, List, [], ◌∷◌, length, map, drop, set, get_or, replicate, sym, refl, ap, ◌∙◌, subst, arith, Option, Some, None}
+use Rattle.std.proofs.Common.{◌≡◌, ℕ, zero, suc, ◌+◌, ◌≤◌, ◌<◌, List, [], ◌∷◌, map, set, get_or, replicate, sym, refl, ap, ◌∙◌, subst, arith, None}
 use Rattle.std.specs.List.{range_with_len}
 use mathlib.Core.Option.{some}
 use lib.ListN.{get_elem?}
@@ -7,15 +7,14 @@ use Rattle.std.proofs.Math.Nat.{mul-le-mul}
 use Rattle.std.proofs.lemmas.List.{length-map}
 use Rattle.std.proofs.lemmas.List.FromFn.{length-range_with_len}
 use Rattle.pin_core.specs.declared.view.View.{View}
-use Rattle.pin_core.specs.declared.view.Role.TheVariants as roles
 use Rattle.pin_core.specs.Core.{CoreState, front_number, front_slot, spent, IsReader}
-use Rattle.pin_core.specs.Step.{HasReader, reader_at_first, opening_with_readers}
+use Rattle.pin_core.specs.Step.{reader_at_first, opening_with_readers}
 use Rattle.pin_core.specs.declared.limits.TheConstants.{MOST_SLOTS, MOST_WRITES, READER_NUMBERS}
 use Rattle.pin_core.proofs.Opening.{opens_with_readers}
 use Rattle.pin_schedule.specs.declared.core_reader.CoreReader.{CoreReader}
 use Rattle.pin_schedule.specs.declared.placed.Placed.{Placed}
 use Rattle.pin_schedule.specs.Answer.{view_of, reader_of}
-use Rattle.pin_schedule.specs.Progress.{Progress, seen_front, progress_of, Amounts, IsPlayed}
+use Rattle.pin_schedule.specs.Progress.{seen_front, progress_of, Amounts, IsPlayed}
 
 module _ (writes : ℕ) where
   readers_told : (from count : ℕ) → map reader_of (map (reader_at_first writes) (range_with_len from count)) ≡ replicate count (reader_of (reader_at_first writes 0))

@@ -1,9 +1,9 @@
 -- Which pin is taken off.
-use Rattle.std.proofs.Common.{◌≡◌, ◌≢◌, ◌⊎◌, ℕ, zero, suc, ◌≤◌, ◌<◌, ◌==◌, ◌&&◌, ◌||◌, Bool, List, [], ◌∷◌, length, get_or, sym, refl, ap, ◌∙◌, subst, ⊎_elim, inl, inr, arith, ltb, not, true, false, Option, Some, None}
+use Rattle.std.proofs.Common.{◌≡◌, ℕ, ◌≤◌, ◌==◌, ◌||◌, Bool, List, length, get_or, sym, refl, ap, ◌∙◌, ⊎_elim, arith, ltb, not, true, false, Option, Some, None}
 use Rattle.std.specs.Prelude.{nat_le, position, slice_get}
 use Rattle.std.specs.List.{All, list_all, position_or_len}
 use Rattle.std.specs.Option.{option_or}
-use Rattle.std.proofs.lemmas.Bool.{both_ways, cond-true, ltb-false, and_parts, and_from, or_cases, not-true, not_from_false, eqb-true, eq-eqb, leb-true, false_from_ne_true, cases_Bool}
+use Rattle.std.proofs.lemmas.Bool.{both_ways, cond-true, ltb-false, and_parts, and_from, or_cases, not-true, not_from_false, eq-eqb, leb-true, false_from_ne_true, cases_Bool}
 use Rattle.std.proofs.lemmas.List.Sums.{AllPass-from_list_all, prefix_len_passes}
 use Rattle.std.proofs.lemmas.List.Quantifiers.{position-Some}
 use Rattle.std.proofs.lemmas.Option.{get_or_from_slice_get}

@@ -1,17 +1,21 @@
 -- Schedules as runs of the core.
-use Rattle.std.proofs.Common.{◌≡◌, ℕ, zero, suc, ◌≤◌, ◌<◌, List, [], ◌∷◌, length, get_or, sym, refl, ap, ◌∙◌, subst, ⊎_elim, arith, Option, Some, None}
+use Rattle.std.proofs.Common.{◌≡◌, ℕ, suc, ◌*◌, ◌<◌, List, [], ◌∷◌, Option, Some, None}
+use mathlib.Core.Option.{some}
+use lib.ListN.{get_elem?}
 use Rattle.pin_core.specs.declared.view.View.{View}
 use Rattle.pin_core.specs.Core.{CoreState}
 use Rattle.pin_core.specs.Lawful.{Lawful}
-use Rattle.pin_core.specs.Step.{HasReader}
-use Rattle.pin_core.specs.Run.{Moves, loads, adds, takes_off, exchanges, claims_slot, stores, gives_back, Reaches, stays, moves_on}
+use Rattle.pin_core.specs.Step.{HasReader, opening_state, opening_with_readers}
+use Rattle.pin_core.specs.Run.{Moves, loads, adds, takes_off, exchanges, claims_slot, stores, gives_back, Reaches, stays, moves_on, KeepsStraysApart}
 use Rattle.pin_core.proofs.Runs.{moves_keep}
+use Rattle.pin_core.proofs.Strays.{strays_apart}
 use Rattle.pin_schedule.specs.declared.event.Event.{Event}
 use Rattle.pin_schedule.specs.declared.event.Kind.{Kind}
 use Rattle.pin_schedule.specs.declared.event.Kind.TheVariants.{LoadFront, AddPin, TakePin, TakeTurn, Claim, StorePush, StoreErase, StoreTurn}
 use Rattle.pin_schedule.specs.Pin.{taken_place}
 use Rattle.pin_schedule.specs.Answer.{view_of}
 use Rattle.pin_schedule.specs.Schedule.{entry_at, MayTakeAt, take_at, next_write, push_of, erase_of, MayPush, push_into, MayMake, after_kind, IsAllowed, after_event, after_events, AreAllowed}
+use Rattle.pin_schedule.proofs.SplitLemmas.{opening_reached}
 
 takes : (s : CoreState) (reader : ℕ) (v : View) (place : Option ℕ) → HasReader s (suc reader) reader v → MayTakeAt v place → Moves s (take_at s (suc reader) v place)
 takes s reader v None has may = absurd may
@@ -44,3 +48,13 @@ events_reach s events all = reaches_on s s events stays all
 pub events_keep : (s : CoreState) (events : List Event) → Lawful s → AreAllowed s events → Lawful (after_events s events)
 events_keep s [] lawful all = lawful
 events_keep s (event ∷ later) lawful all = events_keep (after_event s event) later (moves_keep s (after_event s event) lawful (event_moves s event all.0)) all.1
+
+-- from the opening of a list on
+pub opening_reaches : (slots readers room : ℕ) (events : List Event) → AreAllowed (opening_with_readers slots readers room) events → Reaches (opening_state slots readers (readers * room)) (after_events (opening_with_readers slots readers room) events)
+opening_reaches slots readers room events all =
+    reaches_on (opening_state slots readers (readers * room)) (opening_with_readers slots readers room) events (opening_reached slots readers room) all
+
+pub strays_stand_apart : (slots readers room id : ℕ) (events : List Event) (v : View) → 0 < slots → AreAllowed (opening_with_readers slots readers room) events
+    → get_elem? (after_events (opening_with_readers slots readers room) events).views id ≡ some v → KeepsStraysApart v
+strays_stand_apart slots readers room id events v some_slot all at =
+    strays_apart slots readers (readers * room) (after_events (opening_with_readers slots readers room) events) id v some_slot (opening_reaches slots readers room events all) at

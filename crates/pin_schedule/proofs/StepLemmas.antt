@@ -1,11 +1,9 @@
 -- Each step, as it changes what is kept at hand of a state.
-use Rattle.std.proofs.Common.{◌≡◌, ◌≢◌, ℕ, zero, suc, ◌+◌, ◌-◌, ◌*◌, ◌^◌, ◌≤◌, ◌<◌, ◌==◌, ◌&&◌, List, [], ◌∷◌, ◌++◌, length, map, drop, filter, set, get_or, sym, refl, ap, ◌∙◌, subst, ⊎_elim, inl, inr, ◌⊎◌, arith, not, eqb, true, false, Option, Some, None}
-use Rattle.std.specs.Prelude.{is_some, slice_get, position, nat_le, ◌||◌}
-use Rattle.std.specs.List.{remove, Contains, list_all}
+use Rattle.std.proofs.Common.{◌≡◌, ℕ, suc, ◌+◌, ◌-◌, ◌<◌, ◌==◌, List, [], ◌∷◌, ◌++◌, length, map, set, get_or, sym, refl, ap, ◌∙◌, subst, ⊎_elim, inl, inr, ◌⊎◌, arith, not, true, false, Option, Some, None}
+use Rattle.std.specs.Prelude.{is_some, position, nat_le, ◌||◌}
+use Rattle.std.specs.List.{remove, list_all}
 use Rattle.std.specs.Option.{option_or}
-use mathlib.Core.Option.{some}
-use lib.ListN.{get_elem?}
-use Rattle.std.proofs.lemmas.Bool.{both_ways, cases_eq, cond-true, cond-false, eqb-true, and_parts, eq-eqb, ne_eqb}
+use Rattle.std.proofs.lemmas.Bool.{both_ways, cond-true, cond-false, eqb-true, and_parts, eq-eqb, ne_eqb}
 use Rattle.std.proofs.lemmas.List.{length-append}
 use Rattle.std.proofs.lemmas.List.Quantifiers.{position-Some}
 use Rattle.std.proofs.lemmas.Option.{slice_get-get_or}
@@ -15,9 +13,9 @@ use Rattle.pin_core.specs.declared.write.Write.{Write}
 use Rattle.pin_core.specs.declared.write.Change.{Change}
 use Rattle.pin_core.specs.declared.write.Change.TheVariants.{Push, Erase}
 use Rattle.pin_core.specs.declared.view.View.{View}
-use Rattle.pin_core.specs.Replay.{Edition, ListState, state_after, after_write, front_of, greatest_below}
-use Rattle.pin_core.specs.Core.{CoreState, Front, front_number, front_slot, number_at, count_at, spent, IsReader}
-use Rattle.pin_core.specs.Lawful.{Lawful, KnowsTurn}
+use Rattle.pin_core.specs.Replay.{ListState, state_after, after_write, greatest_below}
+use Rattle.pin_core.specs.Core.{CoreState, front_number, front_slot, number_at, count_at}
+use Rattle.pin_core.specs.Lawful.{KnowsTurn}
 use Rattle.pin_core.specs.Step.{HasReader, MayPin, MayTake, MayTakeTurn, MayClaim, MayStore, MayGive, loaded, pinned, unpinned, got_turn, was_refused, claiming, found_pinned, stored, claimed_after, gave_turn, with_number, front_after, load_front, add_pin, take_pin, take_turn, miss_turn, exchange_turn, claim_slot, miss_slot, claim, store_front, give_turn}
 use Rattle.pin_core.proofs.Loads.{loads}
 use Rattle.pin_core.proofs.Seats.{is_live}
@@ -30,11 +28,11 @@ use Rattle.pin_core.proofs.ReplayLemmas.{state_after_push}
 use Rattle.pin_schedule.specs.declared.core_reader.CoreReader.{CoreReader}
 use Rattle.pin_schedule.specs.declared.placed.Placed.{Placed}
 use Rattle.pin_schedule.specs.Pin.{is_stray_at, is_held_at, is_oldest_at, taken_place}
-use Rattle.pin_schedule.specs.Answer.{seat_of, view_of, reader_of, claimed_by, core_of}
+use Rattle.pin_schedule.specs.Answer.{seat_of, view_of, reader_of, claimed_by}
 use Rattle.pin_schedule.specs.Schedule.{entry_at, take_at, next_write, push_of, erase_of}
 use Rattle.pin_schedule.specs.Progress.{Progress, reader_at, front_at, newest, word_at, counting, greatest_under, without, written, with_reader, with_pin, with_word, with_turn, with_claimed, with_write, placed_of, seen_front, progress_of, Amounts, IsPlayed}
 use Rattle.pin_schedule.proofs.ListedLemmas.{greatest_placed, without_placed}
-use Rattle.pin_schedule.proofs.ViewLemmas.{newest_placed, newest_told, reader_told, front_told, readers_kept, fronts_kept, changed, changed_told, claimed_here, claimed_kept, changed_played}
+use Rattle.pin_schedule.proofs.ViewLemmas.{newest_placed, newest_told, reader_told, front_told, readers_kept, fronts_kept, changed_told, claimed_here, claimed_kept, changed_played}
 
 -- ---- which pin is taken off ----
 

@@ -1,6 +1,5 @@
 -- What is told of a state: of one reader, and after one reader's seat knows something else.
-use Rattle.std.proofs.Common.{◌≡◌, ◌≢◌, ℕ, zero, suc, ◌+◌, ◌*◌, ◌≤◌, ◌<◌, List, [], ◌∷◌, length, map, drop, set, get_or, sym, refl, ap, ◌∙◌, subst, ⊎_elim, arith, true, Option, Some, None}
-use Rattle.std.specs.List.{All}
+use Rattle.std.proofs.Common.{◌≡◌, ◌≢◌, ℕ, zero, suc, ◌+◌, ◌<◌, List, [], ◌∷◌, length, map, drop, set, get_or, sym, refl, ap, ◌∙◌, subst, ⊎_elim, arith, Option, Some, None}
 use mathlib.Core.Option.{some}
 use lib.ListN.{get_elem?}
 use Rattle.std.proofs.lemmas.Bool.{cases_eq}
@@ -8,17 +7,14 @@ use Rattle.std.proofs.lemmas.List.{length-set, length-map, map-set, get_or-map, 
 use Rattle.pin_core.specs.declared.entry.SlotWord.{SlotWord}
 use Rattle.pin_core.specs.declared.write.Write.{Write}
 use Rattle.pin_core.specs.declared.view.View.{View}
-use Rattle.pin_core.specs.declared.view.Role.TheVariants as roles
 use Rattle.pin_core.specs.Replay.{Edition, state_after, front_of}
 use Rattle.pin_core.specs.Core.{CoreState, Front, front_number, front_slot, spent, IsReader}
 use Rattle.pin_core.specs.Lawful.{Lawful}
 use Rattle.pin_core.specs.Step.{HasReader}
-use Rattle.pin_core.proofs.Readers.{named}
 use Rattle.pin_schedule.specs.declared.core_reader.CoreReader.{CoreReader}
-use Rattle.pin_schedule.specs.declared.answer.Core.{Core}
 use Rattle.pin_schedule.specs.declared.placed.Placed.{Placed}
-use Rattle.pin_schedule.specs.Answer.{seat_of, view_of, reader_of, claimed_by, core_of}
-use Rattle.pin_schedule.specs.Progress.{Progress, reader_at, front_at, newest, placed_of, seen_front, progress_of, Amounts, IsPlayed}
+use Rattle.pin_schedule.specs.Answer.{view_of, reader_of, claimed_by}
+use Rattle.pin_schedule.specs.Progress.{reader_at, front_at, newest, placed_of, seen_front, progress_of, Amounts, IsPlayed}
 
 -- ---- lists of views ----
 

@@ -1,5 +1,5 @@
 -- What of a state of the shared list is told when a schedule is over.
-use Rattle.std.specs.Prelude.{ℕ, suc, Option, Some, None, List, length, map, drop, slice_index_or}
+use Rattle.std.specs.Prelude.{ℕ, suc, Option, Some, None, length, map, drop, slice_index_or}
 use Rattle.pin_core.specs.declared.view.View.{View}
 use Rattle.pin_core.specs.Core.{CoreState, spent}
 use Rattle.pin_schedule.specs.declared.core_reader.CoreReader.{CoreReader}

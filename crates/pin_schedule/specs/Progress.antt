@@ -5,8 +5,8 @@ use Rattle.pin_core.specs.declared.entry.SlotWord.{SlotWord}
 use Rattle.pin_core.specs.declared.write.Write.{Write}
 use Rattle.pin_core.specs.declared.view.View.{View}
 use Rattle.pin_core.specs.declared.write.Change.{Change}
-use Rattle.pin_core.specs.Replay.{Edition, greatest, state_after, front_of}
-use Rattle.pin_core.specs.Core.{CoreState, spent, front_number, front_slot, EachSeat}
+use Rattle.pin_core.specs.Replay.{Edition, greatest, state_after}
+use Rattle.pin_core.specs.Core.{CoreState, spent, front_number, front_slot}
 use Rattle.pin_core.specs.Lawful.{Lawful}
 use Rattle.pin_core.specs.Step.{HasReader}
 use Rattle.pin_schedule.specs.declared.core_reader.CoreReader.{CoreReader}

@@ -27,6 +27,7 @@ pub use schedule::run_schedule;
 pub use schedule_error::ScheduleError;
 pub use schedule_laws::{
     a_schedule_has_one_outcome, a_schedule_is_a_run, strays_go_first_and_then_the_oldest,
+    strays_stand_apart_in_schedules,
 };
 pub use slots::Slots;
 

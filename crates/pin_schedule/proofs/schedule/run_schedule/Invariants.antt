@@ -1,4 +1,4 @@
-use Rattle.std.proofs.Common.{◌≡◌, take}
+use Rattle.std.proofs.Common.{take}
 use Rattle.pin_core.specs.Step.{opening_with_readers}
 use Rattle.pin_schedule.specs.Schedule.{after_events, AreAllowed}
 use Rattle.pin_schedule.specs.Progress.{Stands}

@@ -1,4 +1,4 @@
-use Rattle.std.proofs.Common.{◌≡◌, ◌<◌, length, true, sym, ap, ◌∙◌, arith}
+use Rattle.std.proofs.Common.{◌<◌, length, sym, ap, ◌∙◌, arith}
 use Rattle.pin_schedule.specs.Progress.{Progress}
 use Rattle.pin_schedule.proofs.AllowedLemmas.{allowed_told}
 use Rattle.pin_schedule.proofs.course.Course.allows.Goals as goal

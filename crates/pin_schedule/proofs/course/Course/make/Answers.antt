@@ -1,5 +1,4 @@
-use Rattle.std.proofs.Common.{◌≡◌, ◌<◌, length, sym, ◌∙◌, arith}
-use Rattle.pin_schedule.proofs.MakeLemmas.{still_ok, has_reach, has_inside, has_count, has_pin, has_left, has_claimed, has_push, has_erase, has_room, makes_load, makes_pin, makes_take, makes_exchange, makes_claim, makes_push, makes_erase, makes_give}
+use Rattle.pin_schedule.proofs.MakeLemmas.{still_ok, has_reach, has_inside, has_count, has_pin, has_left, has_claimed, makes_load, makes_pin, makes_take, makes_exchange, makes_claim, makes_push, makes_erase, makes_give}
 use Rattle.pin_schedule.proofs.course.Course.make.Goals as goal
 
 pub load_front-requires : goal.load_front-requires

@@ -1,5 +1,4 @@
-use Rattle.std.proofs.Common.{rules, ◌≡◌, ◌∙◌, arith}
-use Rattle.std.proofs.lemmas.Grind.{common_steps}
+use Rattle.std.proofs.Common.{rules}
 use Rattle.pin_schedule.proofs.OpeningLemmas.{opening_told}
 use Rattle.pin_schedule.proofs.course.Course.new.Goals as goal
 
