@@ -1,6 +1,6 @@
 -- What is due at a status, and which status is.
 use Rattle.std.proofs.Common.{◌≡◌, ℕ, List, ◌⊎◌, inl, inr, Option, Some, IsSomeAnd, refl, subst}
-use Rattle.tz_cli.specs.Command.{Command, Info, Dump, Check, Clock, IsCommand, source}
+use Rattle.tz_cli.specs.Command.{Command, Info, Local, Dump, Check, Clock, IsCommand, source}
 use Rattle.tz_cli.specs.Answer.{TextAnswers, IsAnswer}
 use Rattle.tz_cli.specs.Outcome.{Contents, told_content, IsDueFor, IsDue}
 use Rattle.tz_cli.specs.Refusal.{Refuses, refusal_status, refusal_line}
@@ -14,6 +14,7 @@ use Rattle.tz_cli.proofs.Once.{once}
 -- no command answers that the words are those of none
 no_usage : (command : Command) (text line : List ℕ) → TextAnswers command text statuses.Usage line → ⊥
 no_usage (Info name zone t) text line answer = answer
+no_usage (Local name zone l choice) text line answer = answer
 no_usage (Dump name from to zone) text line answer = answer
 no_usage (Check name) text line answer = answer
 no_usage (Clock name conversion number) text line answer = answer

@@ -8,3 +8,5 @@ pub mod Once
 pub mod Due
 pub mod Dumps
 pub mod Outputs
+pub mod NamedZone
+pub mod LocalLine

@@ -1,27 +1,39 @@
 -- Words are those of one command at most, and a command has one status over a content: the reasons exclude each other.
-use Rattle.std.proofs.Common.{◌≡◌, ℕ, nat_eq, ◌<◌, ◌≤◌, ◌⊎◌, inl, inr, List, [], ◌∷◌, length, codes, Option, Some, None, find, Ok, Err, refl, sym, ap, ◌∙◌, subst, arith, ℤ}
+use Rattle.std.proofs.Common.{◌≡◌, ℕ, nat_eq, ◌<◌, ◌≤◌, ◌⊎◌, inl, inr, List, [], ◌∷◌, length, codes, Option, Some, None, find, slice_get, Ok, Err, refl, sym, ap, ◌∙◌, subst, arith, ℤ}
 use Rattle.std.specs.Cmp.Lexicographic.{pointwise}
 use Rattle.tz_types.specs.declared.fault.Fault.{Fault}
 use Rattle.tz_types.specs.declared.leaps.Leaps.{Leaps}
+use Rattle.tz_types.specs.declared.range.LocalInfo.{LocalInfo}
 use Rattle.tz_types.specs.declared.zone.Zone.{Zone}
 use Rattle.tz_types.specs.declared.database.Db.{Db}
+use Rattle.tz_specs.specs.Expansion.{periods_of, full_expansion}
+use Rattle.tz_specs.specs.Local.{local_info, chosen_instant}
 use Rattle.tz_specs.specs.Reads.{Reads}
 use Rattle.tz_specs.specs.Number.{signed_number_of}
 use Rattle.tz_specs.specs.LeapText.{ReadsLeaps, RefusesLeaps}
+use Rattle.tz_output.specs.Choice.{choice_word}
 use Rattle.tz_output.specs.Conversion.{conversion_word}
 use Rattle.tz_cli.specs.Conversion.{IsConvertible}
-use Rattle.tz_cli.specs.Command.{Command, Info, Dump, Check, Clock, IsCommand}
+use Rattle.tz_cli.specs.Command.{Command, Info, Local, Dump, Check, Clock, IsCommand}
 use Rattle.tz_cli.specs.Info.{InfoAnswers}
+use Rattle.tz_cli.specs.LocalTime.{local_time_of}
+use Rattle.tz_cli.specs.Local.{HasLocalInfo, IsLocalLine, LocalAnswers}
 use Rattle.tz_cli.specs.Dump.{AreAskedFor, IsThere, IsMissing, DumpAnswers, asked_for}
 use Rattle.tz_cli.specs.Check.{CheckAnswers}
 use Rattle.tz_cli.specs.Clock.{ClockAnswers}
 use Rattle.tz_cli.specs.Answer.{TextAnswers, IsAnswer, most_bytes}
+use Rattle.tz_output.specs.declared.choice.Choice.{Choice}
+use Rattle.tz_output.specs.declared.choice.Choice.TheVariants as choices
 use Rattle.tz_output.specs.declared.conversion.Conversion.{Conversion}
 use Rattle.tz_output.specs.declared.conversion.Conversion.TheVariants as conversions
 use Rattle.tz_cli.specs.declared.status.Status.{Status}
 use Rattle.tz_cli.specs.declared.status.Status.TheVariants as statuses
 use Rattle.tz_specs.proofs.TextLemmas.{read_isnt_refused}
 use Rattle.tz_specs.proofs.LeapTextLemmas.{one_leap_table, read_leaps_are_not_refused}
+use Rattle.tz_specs.proofs.SameDatabase.{one_database}
+use Rattle.tz_lines.specs.Locate.{located}
+use Rattle.tz_local.specs.Choice.{IsNotUnique}
+use Rattle.tz_local.proofs.InstantLemmas.{decided}
 use Rattle.tz_cli.proofs.Texts.{some_not_none}
 use Rattle.tz_cli.proofs.Asked.{asked_there}
 
@@ -49,6 +61,27 @@ one_conversion a b same =
 one_number : (a b : List ℕ) (m n : ℤ) → a ≡ b → signed_number_of 1 15 a ≡ Some m → signed_number_of 1 15 b ≡ Some n → m ≡ n
 one_number a b m n same first second =
     let number : Some m ≡ Some n = sym first ∙ ap (signed_number_of 1 15) same ∙ second in cc
+
+one_time : (a b : List ℕ) (m n : ℤ) → a ≡ b → local_time_of a ≡ Some m → local_time_of b ≡ Some n → m ≡ n
+one_time a b m n same first second =
+    let time : Some m ≡ Some n = sym first ∙ ap local_time_of same ∙ second in cc
+
+abbrev all_choices : List Choice
+all_choices = choices.None ∷ choices.Strict ∷ choices.Earliest ∷ choices.Latest ∷ []
+
+-- the choice that a word stands for
+abbrev choice_of : List ℕ → Option Choice
+choice_of word = find (λ (choice : Choice). pointwise nat_eq (choice_word choice) word) all_choices
+
+own_choice : (choice : Choice) → choice_of (choice_word choice) ≡ Some choice
+own_choice choices.None = refl
+own_choice choices.Strict = refl
+own_choice choices.Earliest = refl
+own_choice choices.Latest = refl
+
+one_choice : (a b : Choice) → choice_word a ≡ choice_word b → a ≡ b
+one_choice a b same =
+    let found : Some a ≡ Some b = sym (own_choice a) ∙ ap choice_of same ∙ own_choice b in cc
 
 -- the words are those of at most one command
 pub one_command : (words : List (List ℕ)) (a b : Command) → IsCommand words a → IsCommand words b → a ≡ b
@@ -100,6 +133,30 @@ one_command words (Clock leaps conversion count) (Clock leaps' conversion' count
     let files : leaps ≡ leaps' = cc in
     let word : conversion_word conversion ≡ conversion_word conversion' = cc in
     let same : conversion ≡ conversion' = one_conversion conversion conversion' word in cc
+one_command words (Info text zone t) (Local text' zone' l' choice') first second =
+    let are : codes "info" ∷ text ∷ zone ∷ first.number ∷ [] ≡ codes "local" ∷ text' ∷ zone' ∷ second.time ∷ choice_word choice' ∷ [] = sym first.words_are ∙ second.words_are in cc
+one_command words (Local text zone l choice) (Info text' zone' t') first second =
+    let are : codes "local" ∷ text ∷ zone ∷ first.time ∷ choice_word choice ∷ [] ≡ codes "info" ∷ text' ∷ zone' ∷ second.number ∷ [] = sym first.words_are ∙ second.words_are in cc
+one_command words (Dump text from to zone) (Local text' zone' l' choice') first second =
+    let are : codes "dump" ∷ text ∷ first.first ∷ first.last ∷ zone ∷ [] ≡ codes "local" ∷ text' ∷ zone' ∷ second.time ∷ choice_word choice' ∷ [] = sym first.words_are ∙ second.words_are in cc
+one_command words (Local text zone l choice) (Dump text' from' to' zone') first second =
+    let are : codes "local" ∷ text ∷ zone ∷ first.time ∷ choice_word choice ∷ [] ≡ codes "dump" ∷ text' ∷ second.first ∷ second.last ∷ zone' ∷ [] = sym first.words_are ∙ second.words_are in cc
+one_command words (Check text) (Local text' zone' l' choice') first second =
+    let are : codes "check" ∷ text ∷ [] ≡ codes "local" ∷ text' ∷ zone' ∷ second.time ∷ choice_word choice' ∷ [] = sym first ∙ second.words_are in cc
+one_command words (Local text zone l choice) (Check text') first second =
+    let are : codes "local" ∷ text ∷ zone ∷ first.time ∷ choice_word choice ∷ [] ≡ codes "check" ∷ text' ∷ [] = sym first.words_are ∙ second in cc
+one_command words (Clock leaps conversion count) (Local text' zone' l' choice') first second =
+    let are : codes "clock" ∷ leaps ∷ conversion_word conversion ∷ first.number ∷ [] ≡ codes "local" ∷ text' ∷ zone' ∷ second.time ∷ choice_word choice' ∷ [] = sym first.words_are ∙ second.words_are in cc
+one_command words (Local text zone l choice) (Clock leaps' conversion' count') first second =
+    let are : codes "local" ∷ text ∷ zone ∷ first.time ∷ choice_word choice ∷ [] ≡ codes "clock" ∷ leaps' ∷ conversion_word conversion' ∷ second.number ∷ [] = sym first.words_are ∙ second.words_are in cc
+one_command words (Local text zone l choice) (Local text' zone' l' choice') first second =
+    let are : codes "local" ∷ text ∷ zone ∷ first.time ∷ choice_word choice ∷ [] ≡ codes "local" ∷ text' ∷ zone' ∷ second.time ∷ choice_word choice' ∷ [] = sym first.words_are ∙ second.words_are in
+    let time : first.time ≡ second.time = cc in
+    let times : l ≡ l' = one_time first.time second.time l l' time first.time_is second.time_is in
+    let word : choice_word choice ≡ choice_word choice' = cc in
+    let same : choice ≡ choice' = one_choice choice choice' word in
+    let texts : text ≡ text' = cc in
+    let zones : zone ≡ zone' = cc in cc
 
 info_once : (text name : List ℕ) (t : ℤ) (r s : Status) (line other : List ℕ) → InfoAnswers text name t r line → InfoAnswers text name t s other → r ≡ s
 info_once text name t statuses.Ok statuses.Ok line other a b = refl
@@ -131,6 +188,70 @@ info_once text name t statuses.Range statuses.NoZone line other a b =
 info_once text name t statuses.Range statuses.Range line other a b = refl
 info_once text name t statuses.Range s line other a b = absurd b
 info_once text name t r s line other a b = absurd a
+
+-- a text tells one thing of a local time
+same_local_info : (text name : List ℕ) (l : ℤ) (a b : LocalInfo) → HasLocalInfo text name l a → HasLocalInfo text name l b → a ≡ b
+same_local_info text name l a b first second =
+    let dbs : first.db ≡ second.db = one_database text first.db second.db first.reads second.reads in
+    let places : Some first.place ≡ Some second.place = sym first.named ∙ ap (λ (db : Db). located db name) dbs ∙ second.named in
+    let place : first.place ≡ second.place = cc in
+    let zones : Some first.zone ≡ Some second.zone = sym first.there ∙ ap (λ (db : Db). slice_get db.zones first.place) dbs ∙ ap (λ (place : ℕ). slice_get second.db.zones place) place ∙ second.there in
+    let zone : first.zone ≡ second.zone = cc in
+    let told : Some a ≡ Some b = sym first.told ∙ ap (λ (db : Db). local_info (full_expansion (periods_of db first.zone)) l) dbs ∙ ap (λ (zone : Zone). local_info (full_expansion (periods_of second.db zone)) l) zone ∙ second.told in cc
+
+-- with no choice a time has an instant only where one range shows it
+not_undecided : (choice : Choice) (info : LocalInfo) (l : ℤ) (line : List ℕ) → IsLocalLine choice info l line → choice ≡ choices.Strict → IsNotUnique info → ⊥
+not_undecided choices.None info l line is strict not_unique = cc
+not_undecided choices.Strict info l line is strict not_unique = decided info l is.0 None is.1 refl not_unique
+not_undecided choices.Earliest info l line is strict not_unique = cc
+not_undecided choices.Latest info l line is strict not_unique = cc
+
+local_once : (text name : List ℕ) (l : ℤ) (choice : Choice) (r s : Status) (line other : List ℕ) → LocalAnswers text name l choice r line → LocalAnswers text name l choice s other → r ≡ s
+local_once text name l choice statuses.Ok statuses.Ok line other a b = refl
+local_once text name l choice statuses.Ok statuses.Text line other a b = absurd (read_isnt_refused text a.1.db b.0 a.1.reads b.1)
+local_once text name l choice statuses.Ok statuses.NoZone line other a b =
+    absurd (some_not_none text name a.1.db b.0.db a.1.reads b.0.reads (rw a.1.named refl) b.0.none)
+local_once text name l choice statuses.Ok statuses.Range line other a b = absurd (b.0.outside a.1.inside)
+local_once text name l choice statuses.Ok statuses.Local line other a b =
+    let same = same_local_info text name l b.0 a.0 b.1 a.1 in
+    absurd (not_undecided choice a.0 l line a.2 b.2.0 (subst IsNotUnique same b.2.1))
+local_once text name l choice statuses.Ok s line other a b = absurd b
+local_once text name l choice statuses.Text statuses.Ok line other a b = absurd (read_isnt_refused text b.1.db a.0 b.1.reads a.1)
+local_once text name l choice statuses.Text statuses.Text line other a b = refl
+local_once text name l choice statuses.Text statuses.NoZone line other a b =
+    absurd (read_isnt_refused text b.0.db a.0 b.0.reads a.1)
+local_once text name l choice statuses.Text statuses.Range line other a b =
+    absurd (read_isnt_refused text b.0.db a.0 b.0.reads a.1)
+local_once text name l choice statuses.Text statuses.Local line other a b = absurd (read_isnt_refused text b.1.db a.0 b.1.reads a.1)
+local_once text name l choice statuses.Text s line other a b = absurd b
+local_once text name l choice statuses.NoZone statuses.Ok line other a b =
+    absurd (some_not_none text name b.1.db a.0.db b.1.reads a.0.reads (rw b.1.named refl) a.0.none)
+local_once text name l choice statuses.NoZone statuses.Text line other a b =
+    absurd (read_isnt_refused text a.0.db b.0 a.0.reads b.1)
+local_once text name l choice statuses.NoZone statuses.NoZone line other a b = refl
+local_once text name l choice statuses.NoZone statuses.Range line other a b =
+    absurd (some_not_none text name b.0.db a.0.db b.0.reads a.0.reads b.0.there a.0.none)
+local_once text name l choice statuses.NoZone statuses.Local line other a b =
+    absurd (some_not_none text name b.1.db a.0.db b.1.reads a.0.reads (rw b.1.named refl) a.0.none)
+local_once text name l choice statuses.NoZone s line other a b = absurd b
+local_once text name l choice statuses.Range statuses.Ok line other a b = absurd (a.0.outside b.1.inside)
+local_once text name l choice statuses.Range statuses.Text line other a b =
+    absurd (read_isnt_refused text a.0.db b.0 a.0.reads b.1)
+local_once text name l choice statuses.Range statuses.NoZone line other a b =
+    absurd (some_not_none text name a.0.db b.0.db a.0.reads b.0.reads a.0.there b.0.none)
+local_once text name l choice statuses.Range statuses.Range line other a b = refl
+local_once text name l choice statuses.Range statuses.Local line other a b = absurd (a.0.outside b.1.inside)
+local_once text name l choice statuses.Range s line other a b = absurd b
+local_once text name l choice statuses.Local statuses.Ok line other a b =
+    let same = same_local_info text name l a.0 b.0 a.1 b.1 in
+    absurd (not_undecided choice b.0 l other b.2 a.2.0 (subst IsNotUnique same a.2.1))
+local_once text name l choice statuses.Local statuses.Text line other a b = absurd (read_isnt_refused text a.1.db b.0 a.1.reads b.1)
+local_once text name l choice statuses.Local statuses.NoZone line other a b =
+    absurd (some_not_none text name a.1.db b.0.db a.1.reads b.0.reads (rw a.1.named refl) b.0.none)
+local_once text name l choice statuses.Local statuses.Range line other a b = absurd (b.0.outside a.1.inside)
+local_once text name l choice statuses.Local statuses.Local line other a b = refl
+local_once text name l choice statuses.Local s line other a b = absurd b
+local_once text name l choice r s line other a b = absurd a
 
 not_missing : (text : List ℕ) (asked : Option (List ℕ)) (db : Db) → Reads text db → IsThere db asked → IsMissing text asked → ⊥
 not_missing text None db reads there missing = missing
@@ -206,6 +327,8 @@ clock_once text conversion number r s line other a b = absurd a
 
 text_once : (command : Command) (text : List ℕ) (r s : Status) (line other : List ℕ) → TextAnswers command text r line → TextAnswers command text s other → r ≡ s
 text_once (Info name zone t) text r s line other a b = info_once text zone t r s line other a b
+text_once (Local name zone l choice) text r s line other a b =
+    local_once text zone l choice r s line other a b
 text_once (Dump name from to zone) text r s line other a b = dump_once text from to (asked_for zone) r s line other a b
 text_once (Check name) text r s line other a b = check_once text r s line other a b
 text_once (Clock name conversion number) text r s line other a b =

@@ -3,16 +3,26 @@ use Rattle.std.specs.Prelude.{ℕ, List, ◌++◌, length, codes, ℤ}
 use Rattle.std.specs.List.{sum_by}
 use Rattle.std.specs.Fmt.{decimal, signed_decimal}
 use Rattle.tz_types.specs.declared.range.SysInfo.{SysInfo}
+use Rattle.tz_types.specs.declared.range.LocalInfo.{LocalInfo}
 use Rattle.tz_types.specs.declared.fault.Fault.{Fault}
 use Rattle.tz_types.specs.declared.leap_info.LeapInfo.{LeapInfo}
 use Rattle.tz_types.specs.declared.rule_set.RuleSet.{RuleSet}
 use Rattle.tz_types.specs.declared.database.Db.{Db}
 use Rattle.tz_output.specs.Range.{range_text}
+use Rattle.tz_output.specs.LocalInfo.{local_text}
 use Rattle.tz_output.specs.LeapInfo.{leap_text}
 
 -- a range
 abbrev pub range_line : SysInfo → List ℕ
 range_line range = range_text range ++ codes "\n"
+
+-- what there is to know of a local time
+abbrev pub local_line : LocalInfo → List ℕ
+local_line info = local_text info ++ codes "\n"
+
+-- `sys T`: the instant of a local time
+abbrev pub sys_line : ℤ → List ℕ
+sys_line instant = codes "sys " ++ signed_decimal instant ++ codes "\n"
 
 -- a number alone
 abbrev pub number_line : ℤ → List ℕ

@@ -12,16 +12,24 @@ use Rattle.tz_cli.specs.declared.status.Status.TheVariants as statuses
 -- all that is printed
 abbrev pub output_text : Output → List ℕ
 output_text (outputs.Line line) = line.items
+output_text (outputs.Undecided line) = line.items
 output_text (outputs.Zones dump) = compiled_texts dump.from dump.to dump.zones.items
+
+-- the status with which it is printed
+abbrev pub output_status : Output → Status
+output_status (outputs.Line line) = statuses.Ok
+output_status (outputs.Undecided line) = statuses.Local
+output_status (outputs.Zones dump) = statuses.Ok
 
 -- it is made piece by piece while it is printed
 abbrev pub is_in_pieces : Output → Bool
 is_in_pieces (outputs.Line line) = false
+is_in_pieces (outputs.Undecided line) = false
 is_in_pieces (outputs.Zones dump) = true
 
 -- What a command comes to, an output or a refusal, is one of these answers.
 abbrev pub GivesOutput : (Status → List ℕ → Type 0) → Result Output Refusal → Type 0
-GivesOutput answers (Ok output) = answers statuses.Ok (output_text output)
+GivesOutput answers (Ok output) = answers (output_status output) (output_text output)
 GivesOutput answers (Err refusal) = Refuses answers refusal
 
 -- a line that was made whole, or its refusal

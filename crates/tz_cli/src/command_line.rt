@@ -1,7 +1,7 @@
 ghost use Rattle.std.specs.Prelude.{◌≡◌, Some, None, IsNone, IfSome};
 ghost use Rattle.tz_cli.specs.Command.{source, meant};
 
-use tz_output::Conversion;
+use tz_output::{Choice, Conversion};
 
 /// A command, with what its words name.
 #[derive(Clone, Copy)]
@@ -10,6 +10,12 @@ pub enum CommandLine<'w> {
         text: &'w str,
         zone: &'w str,
         instant: i64,
+    },
+    Local {
+        text: &'w str,
+        zone: &'w str,
+        time: i64,
+        choice: Choice,
     },
     Dump {
         text: &'w str,
@@ -35,6 +41,7 @@ impl<'w> CommandLine<'w> {
     {
         match self {
             CommandLine::Info { text, .. }
+            | CommandLine::Local { text, .. }
             | CommandLine::Dump { text, .. }
             | CommandLine::Check { text } => Some(text),
             CommandLine::Clock { leaps: "-", .. } => None,

@@ -1,16 +1,21 @@
 //! Commands: the words, the files and the printed line.
 //!
-//! `run_plain` does a whole command: `info TEXT ZONE T` prints the range of a zone that holds an instant, `dump TEXT FROM TO
-//! ZONE` all its ranges that meet a stretch of time, `check TEXT` the counts of what a text has, and `clock LEAPS CONV X` a
-//! count of one clock by that of another. A command that is refused prints why.
+//! `run_plain` does a whole command: `info TEXT ZONE T` prints the range of a zone that holds an instant, `local TEXT ZONE L
+//! CHOICE` the ranges that show a local time or the instant that it stands for, `dump TEXT FROM TO ZONE` all ranges that meet
+//! a stretch of time, `check TEXT` the counts of what a text has, and `clock LEAPS CONV X` a count of one clock by that of
+//! another. A command that is refused prints why.
 #![tactic(auto)]
 
 mod check;
+mod civil_word;
 mod clock;
 mod command_line;
 mod dump;
 mod info;
 mod line;
+mod local;
+mod local_time;
+mod named_zone;
 mod output;
 mod printing;
 mod reading;

@@ -1,11 +1,11 @@
 ghost use Rattle.std.specs.Prelude.{◌≡◌, ◌≤◌, ◌<◌, ◌*◌, ◌^◌, ◌++◌, IfOk, OnOk};
 ghost use Rattle.std.specs.Fmt.{decimal};
-ghost use Rattle.tz_cli.specs.Line.{range_line, number_line, leap_line, rule_count, check_line, fault_line};
+ghost use Rattle.tz_cli.specs.Line.{range_line, local_line, sys_line, number_line, leap_line, rule_count, check_line, fault_line};
 
 use std::alloc::Global;
-use tz_output::{put_leap_info, put_range};
+use tz_output::{put_leap_info, put_local_info, put_range};
 use tz_text::put_number;
-use tz_types::{Db, Fault, LeapInfo, NoMemory, SysInfo};
+use tz_types::{Db, Fault, LeapInfo, LocalInfo, NoMemory, SysInfo};
 
 /// The line of a range.
 pub fn range_line(alloc: Global, range: &SysInfo) -> Result<Vec<u8>, NoMemory>
@@ -13,6 +13,26 @@ pub fn range_line(alloc: Global, range: &SysInfo) -> Result<Vec<u8>, NoMemory>
 {
     let mut line = Vec::new(alloc);
     put_range(&mut line, range)?;
+    line.extend_from_slice(b"\n")?;
+    Ok(line)
+}
+
+/// The line of what there is to know of a local time.
+pub fn local_line(alloc: Global, info: &LocalInfo) -> Result<Vec<u8>, NoMemory>
+    ensures { IfOk result (λ line. line.items ≡ local_line info.now) }
+{
+    let mut line = Vec::new(alloc);
+    put_local_info(&mut line, info)?;
+    line.extend_from_slice(b"\n")?;
+    Ok(line)
+}
+
+/// The line of the instant of a local time.
+pub fn sys_line(alloc: Global, instant: i64) -> Result<Vec<u8>, NoMemory>
+    ensures { IfOk result (λ line. line.items ≡ sys_line instant) }
+{
+    let mut line = b"sys ".to_vec(alloc)?;
+    put_number(&mut line, instant)?;
     line.extend_from_slice(b"\n")?;
     Ok(line)
 }

@@ -3,7 +3,7 @@ ghost use Rattle.std.specs.Prelude.{◌≡◌, ◌≢◌, ◌++◌, ◌⊎◌, �
 ghost use Rattle.tz_io.specs.Counts.{Rose};
 ghost use Rattle.tz_io.specs.Sink.{Appends, AppendsPart};
 ghost use Rattle.tz_cli.specs.Dumping.{compiled_texts};
-ghost use Rattle.tz_cli.specs.Output.{output_text, is_in_pieces};
+ghost use Rattle.tz_cli.specs.Output.{output_text, output_status, is_in_pieces};
 
 use crate::Status;
 use crate::dump::{Stop, write_zones};
@@ -13,10 +13,12 @@ use std::alloc::Global;
 use std::thread::Threads;
 use tz_io::Sink;
 
-/// One line, made whole, or a dump of zones, whose text is made group by group.
+/// What a command prints: a line that was made whole, or a dump of zones, whose text is made group by group. `Undecided` is the
+/// line of a local time that stands for an instant only by a choice, where none is made.
 #[derive(Drop)]
 pub enum Output {
     Line(Vec<u8>),
+    Undecided(Vec<u8>),
     Zones(ZoneDump),
 }
 
@@ -50,7 +52,7 @@ pub fn print_output<S: Sink>(
     sink: &mut S,
 ) -> Status
     ensures whole { result ≢ Status.Write →
-        ((result ≡ Status.Ok) × Appends (S.taken sink.old) (S.taken sink.new) (output_text output.now))
+        ((result ≡ output_status output.now) × Appends (S.taken sink.old) (S.taken sink.new) (output_text output.now))
         ⊎ ((result ≡ Status.Memory) × IsTrue (is_in_pieces output.now) × (count : ℕ) × Appends (S.taken sink.old) (S.taken sink.new) (take count (output_text output.now) ++ codes "memory\n")) }
     ensures part { result ≡ Status.Write →
         AppendsPart (S.taken sink.old) (S.taken sink.new) (output_text output.now)
@@ -59,6 +61,7 @@ pub fn print_output<S: Sink>(
 {
     match output {
         Output::Line(line) => print(sink, line.as_slice(), Status::Ok),
+        Output::Undecided(line) => print(sink, line.as_slice(), Status::Local),
         Output::Zones(dump) => print_dump(rt, alloc, dump, sink),
     }
 }

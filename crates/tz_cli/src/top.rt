@@ -11,6 +11,7 @@ use crate::check::check;
 use crate::clock::clock;
 use crate::command_line::CommandLine;
 use crate::info::info;
+use crate::local::local;
 use crate::output::{Output, print_output};
 use crate::printing::{print, print_refusal};
 use crate::reading::content_of;
@@ -42,6 +43,12 @@ fn answer_over(alloc: Global, command: CommandLine<'_>, text: &[u8]) -> Result<O
         CommandLine::Info { zone, instant, .. } => {
             line(info(alloc, text, zone.as_bytes(), instant))
         }
+        CommandLine::Local {
+            zone,
+            time,
+            choice,
+            ..
+        } => local(alloc, text, zone.as_bytes(), time, choice),
         CommandLine::Dump { from, to, zone, .. } => {
             match dump(alloc, text, from, to, zone.as_bytes()) {
                 Ok(dump) => Ok(Output::Zones(dump)),
@@ -97,8 +104,8 @@ fn run_command<F: Files, S: Sink>(
     }
 }
 
-/// Does a whole command, `info`, `dump`, `check` or `clock`, and answers its status. It prints the text of the command at
-/// `Ok`, and else the line of the refusal. At `Write` a part of that was taken. `dump` prints what it has made before it makes
+/// Does a whole command, `info`, `local`, `dump`, `check` or `clock`, and answers its status. It prints the text of the command
+/// at `Ok`, what there is to know of the local time at `Local`, and else the line of the refusal. At `Write` a part of that was taken. `dump` prints what it has made before it makes
 /// the rest, so where memory runs out on the way its line stands behind a first part of the text.
 pub fn run_plain<F: Files, S: Sink>(
     rt: &(impl Threads + Sync),
@@ -107,8 +114,8 @@ pub fn run_plain<F: Files, S: Sink>(
     files: &mut F,
     sink: &mut S,
 ) -> Plain
-    // All that was printed is the line that is due at the status, and the status has its reason: 0, 3, 8 and 9 in the
-    // text, 11 in the size of the file, 5 in a fault of the file that was counted in this call.
+    // All that was printed is the line that is due at the status, and the status has its reason: 0, 3, 8, 9 and
+    // 10 in the text, 11 in the size of the file, 5 in a fault of the file that was counted in this call.
     ensures whole { (status : Status) → result ≡ Plain.Done status → status ≢ Status.Write →
         (line : List ℕ) × IsDue (words_of words.now) (F.told files.old) (Failed (F.faults files.old) (F.faults files.new)) status line
         × Appends (S.taken sink.old) (S.taken sink.new) line }
@@ -132,8 +139,8 @@ pub fn run_plain<F: Files, S: Sink>(
         ¬ (Rose (S.faults sink.old) (S.faults sink.new)) → ¬ (Rose (S.stalls sink.old) (S.stalls sink.new)) →
         (result ≡ Plain.Done status) ⊎ (result ≡ Plain.Done Status.Memory) }
 
-    // No command is left to shared lists, 4 and 10 don't come, and the files stay as they were.
-    ensures never { (result ≢ Plain.Shared) × (result ≢ Plain.Done Status.Script) × (result ≢ Plain.Done Status.Local) }
+    // No command is left to shared lists, 4 doesn't come, and the files stay as they were.
+    ensures never { (result ≢ Plain.Shared) × (result ≢ Plain.Done Status.Script) }
     ensures told { F.told files.new ≡ F.told files.old }
 {
     match command_of(words) {

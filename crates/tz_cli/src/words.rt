@@ -1,9 +1,11 @@
 ghost use Rattle.std.specs.Prelude.{ℕ, List, ℤ, IsNone, IfSome};
-ghost use Rattle.tz_cli.specs.Command.{IsInfo, IsDumpCommand, IsCheck, IsClock, IsCommand, IsNoCommand, words_of, meant};
+ghost use Rattle.tz_cli.specs.Command.{IsInfo, IsLocalCommand, IsDumpCommand, IsCheck, IsClock, IsCommand, IsNoCommand, words_of, meant};
+ghost use Rattle.tz_output.specs.declared.choice.Choice.{Choice};
 ghost use Rattle.tz_output.specs.declared.conversion.Conversion.{Conversion};
 
 use crate::command_line::CommandLine;
-use tz_output::Conversion;
+use crate::local_time::local_time;
+use tz_output::{Choice, Conversion};
 use tz_text::signed_number;
 
 /// `info TEXT ZONE T`.
@@ -21,6 +23,33 @@ fn info(words: &[String]) -> Option<CommandLine<'_>>
                     text: text.as_str(),
                     zone: zone.as_str(),
                     instant,
+                }),
+                None => None,
+            }
+        }
+        _ => None,
+    }
+}
+
+/// `local TEXT ZONE L CHOICE`.
+fn local(words: &[String]) -> Option<CommandLine<'_>>
+    ensures some { IfSome result (λ command. IsCommand (words_of words.now) (meant command)) }
+    ensures none { IsNone result → (text zone : List ℕ) (l : ℤ) (choice : Choice) → ¬ (IsLocalCommand (words_of words.now) text zone l choice) }
+{
+    match words {
+        [keyword, text, zone, time, choice] => {
+            if keyword.as_str() != "local" {
+                return None;
+            }
+            let Some(choice) = Choice::from_word(choice.as_str()) else {
+                return None;
+            };
+            match local_time(time.as_bytes()) {
+                Some(time) => Some(CommandLine::Local {
+                    text: text.as_str(),
+                    zone: zone.as_str(),
+                    time,
+                    choice,
                 }),
                 None => None,
             }
@@ -106,6 +135,9 @@ pub fn command_of(words: &[String]) -> Option<CommandLine<'_>>
     ensures none { IsNone result → IsNoCommand (words_of words.now) }
 {
     if let Some(command) = info(words) {
+        return Some(command);
+    }
+    if let Some(command) = local(words) {
         return Some(command);
     }
     if let Some(command) = dump(words) {

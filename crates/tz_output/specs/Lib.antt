@@ -2,3 +2,4 @@ pub mod Range
 pub mod LocalInfo
 pub mod LeapInfo
 pub mod Conversion
+pub mod Choice

@@ -1,14 +1,17 @@
-//! How answers are spelled: ranges, what there is to know of local times and of UTC counts, and the words of clocks.
+//! How answers are spelled: ranges, what there is to know of local times and of UTC counts, and the words of clocks
+//! and of choices.
 //!
 //! Each value has one spelling, which every command and every reply uses. The layer above puts values at the end of a text
 //! that it is making, and adds what stands between them. A number is spelled by `put_number` of `tz_text`.
 #![tactic(auto)]
 
+mod choice;
 mod conversion;
 mod leap_info;
 mod local_info;
 mod range;
 
+pub use choice::Choice;
 pub use conversion::Conversion;
 pub use leap_info::put_leap_info;
 pub use local_info::put_local_info;

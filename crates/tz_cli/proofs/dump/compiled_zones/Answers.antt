@@ -1,4 +1,4 @@
-use Rattle.std.proofs.Common.{◌≡◌, ◌+◌, ◌<◌, ◌++◌, get_or, length, drop, take, ap, sym, ◌∙◌, rules, arith}
+use Rattle.std.proofs.Common.{◌<◌, rules, arith}
 use Rattle.tz_cli.proofs.Dumps.{next_compiled}
 use Rattle.tz_cli.proofs.dump.compiled_zones.Goals as goal
 

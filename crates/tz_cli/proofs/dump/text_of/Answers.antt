@@ -1,4 +1,4 @@
-use Rattle.std.proofs.Common.{◌≡◌, ◌<◌, length, FitsSigned, List, rules}
+use Rattle.std.proofs.Common.{◌≡◌, ◌<◌, length, FitsSigned, rules}
 use Rattle.std.specs.Int.{w64}
 use Rattle.std.proofs.lemmas.Int.{to_z-of_z}
 use Rattle.tz_expand.specs.Stretch.{ranges_between}

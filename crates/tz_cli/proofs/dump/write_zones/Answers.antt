@@ -1,7 +1,7 @@
-use Rattle.std.proofs.Common.{◌≡◌, ◌++◌, ℕ, FitsSigned, ap, sym, ◌∙◌}
+use Rattle.std.proofs.Common.{◌≡◌, ◌++◌, ℕ, FitsSigned, ◌∙◌}
 use Rattle.std.specs.Int.{w64}
 use Rattle.std.proofs.lemmas.Int.{to_z-of_z}
-use Rattle.tz_cli.specs.Dumping.{compiled_texts, IsStopped}
+use Rattle.tz_cli.specs.Dumping.{compiled_texts}
 use Rattle.tz_cli.proofs.Dumps.{stopped_later, in_turn, next_group, group_before}
 use Rattle.tz_cli.proofs.dump.write_zones.Goals as goal
 

@@ -1,4 +1,4 @@
-use Rattle.std.proofs.Common.{◌≡◌, inl, inr, refl}
+use Rattle.std.proofs.Common.{inl, inr, refl}
 use Rattle.tz_cli.proofs.output.print_output.Goals as goal
 
 pub returns-in-Zones-clause-part : goal.returns-in-Zones-clause-part

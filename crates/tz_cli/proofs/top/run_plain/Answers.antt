@@ -1,11 +1,21 @@
-use Rattle.std.proofs.Common.{◌≡◌, codes, inl, inr, refl, ap, ⊎_elim, rules}
+use Rattle.std.proofs.Common.{◌≡◌, codes, inl, inr, refl, sym, ap, subst, ◌∙◌, ⊎_elim, rules}
 use Rattle.tz_cli.specs.Command.{meant, words_of}
-use Rattle.tz_cli.specs.Outcome.{Failed}
+use Rattle.tz_cli.specs.Outcome.{Failed, IsDueFor}
+use Rattle.tz_cli.specs.declared.status.Status.{Status}
 use Rattle.tz_cli.specs.declared.status.Status.TheVariants as statuses
 use Rattle.tz_cli.specs.declared.status.Plain.TheVariants.{Done}
 use Rattle.tz_cli.proofs.Once.{one_command}
 use Rattle.tz_cli.proofs.Due.{for_words, one_due}
 use Rattle.tz_cli.proofs.top.run_plain.Goals as goal
+
+pub returns-in-Some-clause-whole : goal.returns-in-Some-clause-whole
+returns-in-Some-clause-whole g c = λ status is not_write.
+    let told = g.F.Files.told c.args.files.now in
+    let failed = Failed (g.F.Files.faults c.args.files.now) (g.F.Files.faults c.run_command.new.files) in
+    let ended : c.run_command.result ≡ status = cc in
+    let whole = c.run_command.ensures.whole (λ write. not_write (sym ended ∙ write)) in
+    let due = subst (λ (status : Status). IsDueFor (meant c.in-Some.command) told failed status whole.0) ended whole.1 in
+    (whole.0, for_words (words_of c.args.words.now) told failed (meant c.in-Some.command) status whole.0 c.in-Some.ensures.some due, whole.2)
 
 pub returns-in-Some-clause-part : goal.returns-in-Some-clause-part
 returns-in-Some-clause-part g c = λ is.

@@ -1,4 +1,4 @@
-use Rattle.std.proofs.Common.{◌≡◌, take, drop, refl, sym, rules, FitsSigned}
+use Rattle.std.proofs.Common.{◌≡◌, take, drop, refl, rules, FitsSigned}
 use Rattle.std.specs.Int.{w64}
 use Rattle.std.proofs.lemmas.Int.{to_z-of_z}
 use Rattle.tz_cli.specs.Dump.{asked_for, dump_text}

@@ -1,4 +1,4 @@
-use Rattle.std.proofs.Common.{◌≡◌, ◌<◌, ◌≤◌, ◌+◌, false, nat_eq, codes, length, refl, sym, arith, Some}
+use Rattle.std.proofs.Common.{◌≡◌, false, nat_eq, codes, refl, sym, arith, Some}
 use Rattle.std.specs.Cmp.Lexicographic.{pointwise}
 use Rattle.tz_cli.specs.Dump.{asked_for}
 use Rattle.tz_cli.proofs.Texts.{place_within}
