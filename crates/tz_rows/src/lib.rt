@@ -6,6 +6,8 @@ mod dumps;
 #[cfg(test)]
 mod links;
 #[cfg(test)]
+mod locals;
+#[cfg(test)]
 mod outside;
 #[cfg(test)]
 mod real_texts;

@@ -452,7 +452,8 @@ pub fn named_files(alloc: Global) -> Result<MemoryFiles, AllocError> {
     files_of(alloc, list)
 }
 
-fn answers(
+/// Whether each command prints its line and ends with its status, in pieces of one byte and of many.
+pub fn answers(
     rt: &(impl Abort + Threads + Sync),
     alloc: Global,
     rows: &[(&str, Status, &str)],

@@ -150,8 +150,12 @@ const EARLY: &str = "Expires 2016 Dec 31 00:00:00\nLeap 2016 Dec 31 23:59:60 + S
 /// Seconds are skipped alone, so that fewer than none were added.
 const BELOW: &str = "Leap 1969 Dec 31 23:59:59 - S\nLeap 1969 Dec 30 23:59:59 - S\n";
 
+/// Two gaps, of which the second alone has the local time 1000.
+const TWO_GAPS: &str =
+    "Zone W 0 - A 1970\n24 - B 1970 Jan 1 0:01:40u\n-24 - C 1970 Jan 1 0:03:20u\n24 - D\n";
+
 /// Each text by the name that rows call it.
-pub const TEXTS: [(&str, &str); 30] = [
+pub const TEXTS: [(&str, &str); 31] = [
     ("N", TEXT_N),
     ("A", TEXT_A),
     ("B", TEXT_B),
@@ -161,6 +165,7 @@ pub const TEXTS: [(&str, &str); 30] = [
     ("O", TEXT_O),
     ("several", SEVERAL),
     ("D", TEXT_D),
+    ("gap", TWO_GAPS),
     ("C", TEXT_C),
     ("emptyline", EMPTY_LINE),
     ("W", TEXT_W),
