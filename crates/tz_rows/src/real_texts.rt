@@ -93,32 +93,29 @@ fn ends(line: &str) -> Option<(i64, i64)> {
 /// the order of their names. Answers how many zones there are.
 fn joined_zones(rt: &impl Abort, dump: &str, from: i64, to: i64) -> usize {
     let mut zones = 0usize;
-    let mut name = "";
+    let mut name: &[u8] = b"";
     let mut reached = Some(to);
     for line in dump.lines() {
         match (line.strip_prefix("zone "), ends(line)) {
             (Some(next), _) => {
                 assert!(rt; reached.is_some_and(|end| end >= to), "before {line}");
-                assert!(rt;
-                    name.as_bytes().cmp(next.as_bytes()) == Ordering::Less,
-                    "{line}"
-                );
+                assert!(rt; name.cmp(next.as_bytes()) == Ordering::Less, "{line}");
                 zones = zones.saturating_add(1);
-                name = next;
+                name = next.as_bytes();
                 reached = None;
             }
             (None, Some((begin, end))) => {
-                assert!(rt; begin < end, "{name} {line}");
+                assert!(rt; begin < end, "{line}");
                 assert!(rt;
                     reached.map_or(begin <= from, |before| before == begin),
-                    "{name} {line}"
+                    "{line}"
                 );
                 reached = Some(end);
             }
-            (None, None) => assert!(rt; false, "{name} {line}"),
+            (None, None) => assert!(rt; false, "{line}"),
         }
     }
-    assert!(rt; reached.is_some_and(|end| end >= to), "after {name}");
+    assert!(rt; reached.is_some_and(|end| end >= to), "at the end");
     zones
 }
 
