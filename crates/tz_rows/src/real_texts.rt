@@ -1,10 +1,9 @@
 //! Texts that the machine may have. Where it has none, nothing is tested.
 use crate::outside::{one_file, run};
 use std::alloc::{AllocError, Global};
-use std::cmp::Ordering;
+use std::fs;
 use std::process::Abort;
 use std::test::Fail;
-use std::{fs, str};
 use tz_cli::{Plain, Status};
 use tz_lines::read_leaps;
 use tz_text::{Fields, Joined, amount, named, on, signed_number, year};
@@ -78,65 +77,6 @@ fn a_real_text_is_counted(rt: HostRuntime) -> Result<(), Fail> {
     let (answer, taken) = run(&rt, alloc, &mut files, "check T", 64, 4_096)?;
     assert_eq!(rt; taken.as_slice(), printed.as_bytes());
     assert_eq!(rt; answer, Plain::Done(Status::Ok));
-    Ok(())
-}
-
-/// Where the range of a line begins and ends.
-fn ends(line: &str) -> Option<(i64, i64)> {
-    let mut words = line.split(' ');
-    let begin = signed_number(words.next()?.as_bytes())?;
-    let end = signed_number(words.next()?.as_bytes())?;
-    Some((begin, end))
-}
-
-/// Asserts that the ranges of each zone of a dump join without a gap from its start to its end, and that the zones stand in
-/// the order of their names. Answers how many zones there are.
-fn joined_zones(rt: &impl Abort, dump: &str, from: i64, to: i64) -> usize {
-    let mut zones = 0usize;
-    let mut name: &[u8] = b"";
-    let mut reached = Some(to);
-    for line in dump.lines() {
-        match (line.strip_prefix("zone "), ends(line)) {
-            (Some(next), _) => {
-                assert!(rt; reached.is_some_and(|end| end >= to), "before {line}");
-                assert!(rt; name.cmp(next.as_bytes()) == Ordering::Less, "{line}");
-                zones = zones.saturating_add(1);
-                name = next.as_bytes();
-                reached = None;
-            }
-            (None, Some((begin, end))) => {
-                assert!(rt; begin < end, "{line}");
-                assert!(rt;
-                    reached.map_or(begin <= from, |before| before == begin),
-                    "{line}"
-                );
-                reached = Some(end);
-            }
-            (None, None) => assert!(rt; false, "{line}"),
-        }
-    }
-    assert!(rt; reached.is_some_and(|end| end >= to), "at the end");
-    zones
-}
-
-#[test]
-fn a_real_text_is_dumped_without_gaps(rt: HostRuntime) -> Result<(), Fail> {
-    if !fs::exists(&rt, ZONES)? {
-        return Ok(());
-    }
-    let alloc = rt.alloc();
-    let text = fs::read_to_string(&rt, ZONES)?;
-    let mut files = one_file(alloc, text.as_bytes().to_vec(alloc)?)?;
-    // From 1900 to 2100.
-    let (from, to) = (-2_208_988_800, 4_102_444_800);
-    let line = format!(in alloc; "dump T {from} {to} -")?;
-    let (answer, taken) = run(&rt, alloc, &mut files, line.as_str(), 65_536, 33_554_432)?;
-    assert_eq!(rt; answer, Plain::Done(Status::Ok));
-    let dump = str::from_utf8(taken.as_slice()).ok().ok_or("a text")?;
-    assert_eq!(rt;
-        joined_zones(&rt, dump, from, to),
-        lines_with(text.as_str(), "Z ")
-    );
     Ok(())
 }
 
