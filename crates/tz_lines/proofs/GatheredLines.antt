@@ -1,17 +1,17 @@
 -- What lines give, one after another.
 use Rattle.std.proofs.Common.{◌≡◌, ℕ, ◌+◌, List, [], ◌∷◌, Option, Some, None, Result, Ok, Err, refl, ap, ◌∙◌}
 use Rattle.tz_types.specs.declared.cause.Cause.{Cause}
-use Rattle.tz_types.specs.declared.fault.Fault.{Fault}
+use Rattle.tz_types.specs.declared.fault.LineFault.{LineFault}
 use Rattle.tz_types.specs.Cause.{cause_number}
 use Rattle.tz_specs.specs.Line.{lines_of}
 use Rattle.tz_specs.specs.Causes.{fault_at}
 use Rattle.tz_specs.specs.Written.{Record}
 use Rattle.tz_specs.specs.Contents.{Contents, no_contents, with_record, with_said, line_says, contents_after, contents_of}
 use Rattle.tz_lines.specs.Gathering.{MeansLineFault}
-use Rattle.tz_lines.specs.declared.error.ReadError.TheVariants as errors
+use Rattle.tz_lines.specs.declared.error.LineError.TheVariants as errors
 
 -- what a line and those behind it give, by what the line says
-abbrev pub given_by : Contents → ℕ → List (List ℕ) → Result (Option Record) Cause → Result Contents Fault
+abbrev pub given_by : Contents → ℕ → List (List ℕ) → Result (Option Record) Cause → Result Contents LineFault
 given_by contents number lines (Ok said) = contents_after (with_said said contents) (number + 1) lines
 given_by contents number lines (Err cause) = Err (fault_at number cause)
 

@@ -7,8 +7,8 @@ use Rattle.tz_specs.specs.LeapLine.{LeapRecord, leap_line_says}
 use Rattle.tz_specs.specs.LeapText.{LeapContents, no_leap_contents, with_leap_record, leap_fault, leap_contents_after, leap_contents_of}
 use Rattle.tz_specs.proofs.LeapTextLemmas.{given_by, contents_step}
 use Rattle.tz_lines.specs.declared.leap_contents.WrittenLeap.{WrittenLeap}
-use Rattle.tz_lines.specs.declared.error.ReadError.{ReadError}
-use Rattle.tz_lines.specs.declared.error.ReadError.TheVariants as errors
+use Rattle.tz_lines.specs.declared.error.LineError.{LineError}
+use Rattle.tz_lines.specs.declared.error.LineError.TheVariants as errors
 use Rattle.tz_lines.specs.LeapContents.{leap_meant, MeansLeapLineFault}
 
 -- what is said where so many leap seconds are kept
@@ -20,7 +20,7 @@ pub after_said : (contents : LeapContents) (number : ℕ) (line : List ℕ) (lin
 after_said contents number line lines said e = contents_step contents number line lines ∙ ap (given_by contents number lines) e
 
 -- a fault comes where a line has a cause
-pub cause_comes : (error : ReadError) (contents : LeapContents) (number : ℕ) (line : List ℕ) (lines : List (List ℕ)) (cause : Cause) → error ≡ errors.Fault (leap_fault number cause) → leap_line_says number (length contents.leaps) line ≡ Err cause → MeansLeapLineFault error (leap_contents_after contents number (line ∷ lines))
+pub cause_comes : (error : LineError) (contents : LeapContents) (number : ℕ) (line : List ℕ) (lines : List (List ℕ)) (cause : Cause) → error ≡ errors.Fault (leap_fault number cause) → leap_line_says number (length contents.leaps) line ≡ Err cause → MeansLeapLineFault error (leap_contents_after contents number (line ∷ lines))
 cause_comes error contents number line lines cause is e =
     rw is (contents_step contents number line lines ∙ ap (given_by contents number lines) e)
 

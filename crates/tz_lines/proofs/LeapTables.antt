@@ -15,7 +15,7 @@ use Rattle.tz_types.specs.Order.{ascends, ascends_after}
 use Rattle.tz_types.specs.Limit.{most_leaps}
 use Rattle.tz_types.specs.declared.cause.Cause.{Cause}
 use Rattle.tz_types.specs.declared.cause.Cause.TheVariants as causes
-use Rattle.tz_types.specs.declared.fault.Fault.{Fault}
+use Rattle.tz_types.specs.declared.fault.LineFault.{LineFault}
 use Rattle.tz_types.specs.declared.leap_entry.LeapEntry.{LeapEntry}
 use Rattle.tz_types.specs.declared.leaps.Leaps.{Leaps}
 use Rattle.tz_specs.specs.Whole.{is_told_before, IsLeast}
@@ -26,8 +26,8 @@ use Rattle.tz_specs.proofs.ListLemmas.{none_first, none_second}
 use Rattle.tz_specs.proofs.LeapTextLemmas.{LinesRise, leap_line, expiry_line, text_good}
 use Rattle.tz_lines.specs.declared.leap_contents.WrittenLeap.{WrittenLeap}
 use Rattle.tz_lines.specs.declared.leap_contents.WrittenExpiry.{WrittenExpiry}
-use Rattle.tz_lines.specs.declared.error.ReadError.{ReadError}
-use Rattle.tz_lines.specs.declared.error.ReadError.TheVariants as errors
+use Rattle.tz_lines.specs.declared.error.LineError.{LineError}
+use Rattle.tz_lines.specs.declared.error.LineError.TheVariants as errors
 use Rattle.tz_rules.specs.Told.{told_with, IsLeastOf}
 use Rattle.tz_lines.specs.LeapContents.{entry_meant, leap_meant, expiry_meant, leap_cmp, AreGiven, IsTableOf, MeansLeapLineFault, MeansWholeLeapFault}
 use Rattle.tz_lines.specs.LeapFaults.{repeats_after, repeats, later_expiries, last_date, is_early, early_expiries}
@@ -221,7 +221,7 @@ lt_true a b h = grind (arith, nat_tests)
 from_lt : (a b : ℕ) → nat_lt a b ≡ true → a < b
 from_lt a b h = grind (arith, nat_tests)
 
-fault_is : (holds : Bool) (line : ℕ) (cause : Cause) (fault : Fault) → leap_fault_where holds line cause ≡ Some fault → (holds ≡ true) × (leap_fault line cause ≡ fault)
+fault_is : (holds : Bool) (line : ℕ) (cause : Cause) (fault : LineFault) → leap_fault_where holds line cause ≡ Some fault → (holds ≡ true) × (leap_fault line cause ≡ fault)
 fault_is true line cause fault h = (refl, cc)
 fault_is false line cause fault h = cc
 
@@ -237,7 +237,7 @@ in_option (Some x) y is =
 of_option : {Y : Type 0} (value : Option Y) (y : Y) → value ≡ Some y → Contains (option_to_list value) y
 of_option value y e = rw e (is_first y [])
 
-from_repeats : (all : List texts.WrittenLeap) (x : WrittenLeap) (xs : List WrittenLeap) (fault : Fault) → Rises x xs → Contains all (leap_meant x) → ((z : WrittenLeap) → Contains xs z → Contains all (leap_meant z)) → Contains (repeats_after x xs) fault → Contains (filter_map (repeated_leap all) all) fault
+from_repeats : (all : List texts.WrittenLeap) (x : WrittenLeap) (xs : List WrittenLeap) (fault : LineFault) → Rises x xs → Contains all (leap_meant x) → ((z : WrittenLeap) → Contains xs z → Contains all (leap_meant z)) → Contains (repeats_after x xs) fault → Contains (filter_map (repeated_leap all) all) fault
 from_repeats all x [] fault rise here into is = absurd (never_in_none fault is)
 from_repeats all x (y ∷ ys) fault rise here into is =
     ⊎_elim
@@ -316,14 +316,14 @@ are_ordered leaps (x ∷ xs) next rise permuted sorted =
       rise = rises x xs (λ line. let same = sum_by-IsPermutation (at_line line) leaps (x ∷ xs) permuted in omega (arith, same, one_at_most line 0 next leaps rise)) (from_sorted x xs sorted);
     }
 
-repeats_of : (leaps ordered : List WrittenLeap) (fault : Fault) → AreOrdered leaps ordered → Contains (repeats ordered) fault → Contains (filter_map (repeated_leap (map leap_meant leaps)) (map leap_meant leaps)) fault
+repeats_of : (leaps ordered : List WrittenLeap) (fault : LineFault) → AreOrdered leaps ordered → Contains (repeats ordered) fault → Contains (filter_map (repeated_leap (map leap_meant leaps)) (map leap_meant leaps)) fault
 repeats_of leaps [] fault are is = absurd (never_in_none fault is)
 repeats_of leaps (x ∷ xs) fault are is =
     let back : (z : WrittenLeap) → Contains (x ∷ xs) z → Contains (map leap_meant leaps) (leap_meant z) =
     λ z there. contains_map leap_meant z leaps (Contains-permutation (x ∷ xs) leaps z (IsPermutation-sym leaps (x ∷ xs) are.permuted) there) in
     from_repeats (map leap_meant leaps) x xs fault are.rise (back x (is_first x xs)) (λ z there. back z (is_later x z xs there)) is
 
-of_repeats : (leaps ordered : List WrittenLeap) (fault : Fault) → AreOrdered leaps ordered → Contains (filter_map (repeated_leap (map leap_meant leaps)) (map leap_meant leaps)) fault → Contains (repeats ordered) fault
+of_repeats : (leaps ordered : List WrittenLeap) (fault : LineFault) → AreOrdered leaps ordered → Contains (filter_map (repeated_leap (map leap_meant leaps)) (map leap_meant leaps)) fault → Contains (repeats ordered) fault
 of_repeats leaps ordered fault are is =
     let all = map leap_meant leaps in
     let found = from_filtered (repeated_leap all) fault all is in
@@ -412,7 +412,7 @@ early_expiries_are leaps ordered (expiry ∷ expiries) are =
 
 -- ---- all faults, and the least
 
-abbrev faults_in_order : List WrittenLeap → List WrittenExpiry → List Fault
+abbrev faults_in_order : List WrittenLeap → List WrittenExpiry → List LineFault
 faults_in_order ordered expiries = repeats ordered ++ later_expiries expiries ++ early_expiries (last_date ordered) expiries
 
 abbrev contents_of : List WrittenLeap → List WrittenExpiry → texts.LeapContents
@@ -424,13 +424,13 @@ faults_are leaps ordered expiries next are rise =
     rw (later_expiries_are expiries next rise, early_expiries_are leaps ordered expiries are) refl
 
 -- lists with one tail and the same elements before it
-swap_front : (one other tail : List Fault) → ((fault : Fault) → Contains one fault → Contains other fault) → (fault : Fault) → Contains (one ++ tail) fault → Contains (other ++ tail) fault
+swap_front : (one other tail : List LineFault) → ((fault : LineFault) → Contains one fault → Contains other fault) → (fault : LineFault) → Contains (one ++ tail) fault → Contains (other ++ tail) fault
 swap_front one other tail into fault is =
     ⊎_elim (λ (front : Contains one fault). Contains-append_left other tail fault (into fault front))
     (λ (back : Contains tail fault). Contains-append_right other tail fault back)
     (Contains-append_cases one tail fault is)
 
-least_of_same : (xs ys : List Fault) (least : Option Fault) → ((fault : Fault) → Contains xs fault → Contains ys fault) → ((fault : Fault) → Contains ys fault → Contains xs fault) → IsLeastOf xs least → IsLeastOf ys least
+least_of_same : (xs ys : List LineFault) (least : Option LineFault) → ((fault : LineFault) → Contains xs fault → Contains ys fault) → ((fault : LineFault) → Contains ys fault → Contains xs fault) → IsLeastOf xs least → IsLeastOf ys least
 least_of_same xs [] None into back is = refl
 least_of_same xs (y ∷ ys) None into back is =
     absurd (never_in_none y (subst (λ it. Contains it y) is (back y (is_first y ys))))
@@ -440,11 +440,11 @@ least_of_same xs ys (Some fault) into back is =
       least = λ k d within. All-contains_at k d within;
     }
   where
-    All-contains_at : (k : ℕ) (d : Fault) → k < length ys → IsTrue (is_told_before fault (get_or ys k d))
+    All-contains_at : (k : ℕ) (d : LineFault) → k < length ys → IsTrue (is_told_before fault (get_or ys k d))
     All-contains_at k d within =
         All-contains (λ other. IsTrue (is_told_before fault other)) xs (get_or ys k d) is.least (back (get_or ys k d) (k, within, get_or_default ys k (get_or ys k d) d within))
 
-least_in_order : (leaps ordered : List WrittenLeap) (expiries : List WrittenExpiry) (next : ℕ) (least : Option Fault) → AreOrdered leaps ordered → LinesRise expiry_line 0 (map expiry_meant expiries) next → least ≡ told_with None (faults_in_order ordered expiries) → IsLeastOf (leap_faults (contents_of leaps expiries)) least
+least_in_order : (leaps ordered : List WrittenLeap) (expiries : List WrittenExpiry) (next : ℕ) (least : Option LineFault) → AreOrdered leaps ordered → LinesRise expiry_line 0 (map expiry_meant expiries) next → least ≡ told_with None (faults_in_order ordered expiries) → IsLeastOf (leap_faults (contents_of leaps expiries)) least
 least_in_order leaps ordered expiries next least are rise told =
     let all = map leap_meant leaps in
     let tail = later_expiries expiries ++ early_expiries (last_date ordered) expiries in
@@ -493,7 +493,7 @@ no_repeats leaps ordered expiries told =
 
 -- what comes of the contents of a text, whose leap seconds are put in order
 
-pub fault_of_table : (leaps ordered : List WrittenLeap) (expiries : List WrittenExpiry) (fault : Fault) → AreGiven (contents_of leaps expiries) → IsPermutation leaps ordered → IsSorted leap_cmp ordered → told_with None (faults_in_order ordered expiries) ≡ Some fault → IsLeast (leap_faults (contents_of leaps expiries)) fault
+pub fault_of_table : (leaps ordered : List WrittenLeap) (expiries : List WrittenExpiry) (fault : LineFault) → AreGiven (contents_of leaps expiries) → IsPermutation leaps ordered → IsSorted leap_cmp ordered → told_with None (faults_in_order ordered expiries) ≡ Some fault → IsLeast (leap_faults (contents_of leaps expiries)) fault
 fault_of_table leaps ordered expiries fault given permuted sorted told =
     let good = text_good given.0 (contents_of leaps expiries) given.1 in
     let are = are_ordered leaps ordered good.0 good.1.rise permuted sorted in
@@ -519,17 +519,3 @@ table_of_text leaps ordered expiries made given permuted sorted told entries exp
       entries = rw (map_meant leaps, entries) (IsPermutation-map entry_meant leaps ordered permuted);
       expires = expires;
     }
-
--- ---- the text
-
-pub line_refused : (text : List ℕ) (error : ReadError) → MeansLeapLineFault error (leap_contents_of text) → MeansRefusal error text
-line_refused text errors.NoMemory h = tt
-line_refused text (errors.Fault fault) h = inl h
-
-pub whole_refused : (text : List ℕ) (error : ReadError) (contents : texts.LeapContents) → leap_contents_of text ≡ Ok contents → MeansWholeLeapFault error contents → MeansRefusal error text
-whole_refused text errors.NoMemory contents given h = tt
-whole_refused text (errors.Fault fault) contents given h = inr (record { contents = contents; given = given; least = h })
-
-pub text_read : (text : List ℕ) (contents : texts.LeapContents) (leaps : Leaps) → leap_contents_of text ≡ Ok contents → IsTableOf contents leaps → ReadsLeaps text leaps
-text_read text contents leaps given is =
-    record { contents = contents; given = given; no_fault = is.no_fault; entries = is.entries; expires = is.expires }

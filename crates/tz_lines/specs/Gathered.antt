@@ -10,4 +10,5 @@ contents_gathered gathered =
       sets = map written_set gathered.sets;
       zones = map (written_zone gathered.names.labels.items) gathered.zones;
       links = map written_link gathered.links;
+      begun = gathered.begun;
     }

@@ -1,7 +1,7 @@
 //! What the lines of a text have given so far, with one more record.
 ghost use Rattle.std.specs.Prelude.{◌≡◌, ◌+◌, ◌<◌, ◌≤◌, ◌^◌, length, IsTrue, IfOk, OnOk};
 ghost use Rattle.tz_specs.specs.Written.{written_rule, written_line, RuleRecord, ZoneRecord, Continuation};
-ghost use Rattle.tz_specs.specs.Contents.{no_contents, with_record};
+ghost use Rattle.tz_specs.specs.Contents.{no_contents, at_end_of_file, with_record};
 ghost use Rattle.tz_records.specs.Entry.{written_entry, written_entry_line};
 ghost use Rattle.tz_rules.specs.Continued.{is_named_by};
 ghost use Rattle.tz_lines.specs.Gathered.{contents_gathered};
@@ -28,6 +28,7 @@ impl Gathered {
             names: SetNames::new(alloc),
             zones: Items::new(alloc),
             links: Items::new(alloc),
+            begun: false,
         }
     }
 
@@ -66,7 +67,9 @@ impl Gathered {
         ensures names { length self.new.names.labels.items ≤ length self.old.names.labels.items + 1 }
     {
         let line = self.zone_line(entry)?;
-        self.zones.push(zone_of(alloc, name, line)?)
+        self.zones.push(zone_of(alloc, name, line)?)?;
+        self.begun = true;
+        Ok(())
     }
 
     fn continue_zone(&mut self, alloc: Global, entry: EntryLine<'_>) -> Result<(), NoMemory>
@@ -80,6 +83,14 @@ impl Gathered {
         continue_last(&mut zones, line)?;
         self.zones = Items::from_vec(zones);
         Ok(())
+    }
+
+    /// Ends a file: the next one continues no zone of it.
+    pub fn end_file(&mut self)
+        ensures contents { contents_gathered self.new ≡ at_end_of_file (contents_gathered self.old) }
+        ensures names { length self.new.names.labels.items ≡ length self.old.names.labels.items }
+    {
+        self.begun = false;
     }
 
     /// Adds what a line says. After `NoMemory` the text can't be read on.

@@ -8,13 +8,14 @@ use crate::set_names::SetNames;
 use tz_types::{Items, Link, RuleSet, Zone};
 
 /// What the lines of a text have given so far: rule sets in the order of their names, and zones and links in the order
-/// of their lines. A line of a zone that follows a rule set gives the place of the set's name among the names.
+/// of their lines, and whether a zone was begun in the file that is read. A line of a zone that follows a rule set gives the place of the set's name among the names.
 #[derive(Debug, Drop)]
 pub struct Gathered {
     pub sets: Items<RuleSet>,
     pub names: SetNames,
     pub zones: Items<Zone>,
     pub links: Items<Link>,
+    pub begun: bool,
     pub ghost sets_ascend: { IsTrue (ascends name_before (map (λ set. set.name) sets)) },
     pub ghost few_sets: { length sets ≤ most_sets },
     pub ghost few_zones: { length zones ≤ most_zones },

@@ -1,13 +1,14 @@
 ghost use Rattle.std.specs.Prelude.{◌≡◌};
-ghost use Rattle.tz_lines.specs.declared.error.ReadError.TheVariants as errors;
-ghost use Rattle.tz_lines.specs.Refusal.{error_read};
+ghost use Rattle.tz_types.specs.declared.fault.LineFault.{LineFault};
+ghost use Rattle.tz_lines.specs.declared.error.LineError.TheVariants as line_errors;
+ghost use Rattle.tz_lines.specs.Refusal.{line_error};
 
 use std::error::Error;
 use std::fmt;
 use tz_rules::BuildError;
-use tz_types::{Fault, NoMemory};
+use tz_types::{Fault, LineFault, NoMemory};
 
-/// Why a text wasn't read.
+/// Why a source or a leap text wasn't read.
 #[derive(Clone, Copy, Debug, PartialEq, Eq, Hash)]
 pub enum ReadError {
     NoMemory,
@@ -23,10 +24,13 @@ impl fmt::Display for ReadError {
     fn fmt<W: fmt::Write>(&self, f: &mut fmt::Formatter<W>) -> fmt::Result {
         match self {
             ReadError::NoMemory => f.write_str("memory ran out"),
-            ReadError::Fault(fault) => {
-                let line = fault.line;
-                let cause = fault.cause;
-                write!(f, "line {line}, cause {cause}")
+            ReadError::Fault(Fault {
+                file: 0,
+                line,
+                cause,
+            }) => write!(f, "line {line}, cause {cause}"),
+            ReadError::Fault(Fault { file, line, cause }) => {
+                write!(f, "file {file}, line {line}, cause {cause}")
             }
         }
     }
@@ -34,21 +38,28 @@ impl fmt::Display for ReadError {
 
 impl Error for ReadError {}
 
-impl From<NoMemory> for ReadError {
-    ghost from_gives = { λ _ e. e ≡ errors.NoMemory };
+/// Why lines gave nothing, where the lines of all files are counted through.
+#[derive(Clone, Copy, Debug, PartialEq, Eq, Hash)]
+pub enum LineError {
+    NoMemory,
+    Fault(LineFault),
+}
+
+impl From<NoMemory> for LineError {
+    ghost from_gives = { λ _ e. e ≡ line_errors.NoMemory };
 
     fn from(_: NoMemory) -> Self {
-        ReadError::NoMemory
+        LineError::NoMemory
     }
 }
 
-impl From<BuildError> for ReadError {
-    ghost from_gives = { λ error e. e ≡ error_read error };
+impl From<BuildError> for LineError {
+    ghost from_gives = { λ error e. e ≡ line_error error };
 
     fn from(error: BuildError) -> Self {
         match error {
-            BuildError::NoMemory => ReadError::NoMemory,
-            BuildError::Fault { line, cause } => ReadError::Fault(Fault { line, cause }),
+            BuildError::NoMemory => LineError::NoMemory,
+            BuildError::Fault { line, cause } => LineError::Fault(LineFault { line, cause }),
         }
     }
 }

@@ -1,16 +1,19 @@
 ghost use Rattle.std.specs.Prelude.{◌≡◌, ◌+◌, ◌<◌, ◌≤◌, ◌∷◌, ℕ, List, Ok, IfOk, IfErr, OnOk, length, IsTrue};
-ghost use Rattle.tz_specs.specs.Contents.{contents_after, contents_of};
+ghost use Rattle.tz_types.specs.Limit.{most_bytes};
+ghost use Rattle.tz_types.specs.Source.{bytes_together};
+ghost use Rattle.tz_specs.specs.Line.{lines_of};
+ghost use Rattle.tz_specs.specs.Contents.{contents_after, contents_over, contents_of};
 ghost use Rattle.tz_lines.specs.Gathered.{contents_gathered};
 ghost use Rattle.tz_lines.specs.Following.{are_before};
 ghost use Rattle.tz_lines.specs.Gathering.{MeansLineFault};
 
-use crate::ReadError;
 use crate::contents::Gathered;
 use crate::cutting::next_line;
+use crate::error::LineError;
 use crate::line::read_line;
 use std::alloc::Global;
 use tz_text::Joined;
-use tz_types::Fault;
+use tz_types::{LineFault, Text};
 
 /// Reads one more line of a text.
 fn take_line(
@@ -19,7 +22,7 @@ fn take_line(
     joined: &mut Joined,
     line: &[u8],
     number: u32,
-) -> Result<(), ReadError>
+) -> Result<(), LineError>
     requires before { IsTrue (are_before number (contents_gathered gathered.old).sets) }
     requires names { length gathered.old.names.labels.items < number }
     ensures ok { OnOk result ((lines : List (List ℕ)) →
@@ -36,28 +39,56 @@ fn take_line(
             gathered.add(alloc, entry)?;
             Ok(())
         }
-        Err(cause) => Err(ReadError::Fault(Fault {
+        Err(cause) => Err(LineError::Fault(LineFault {
             line: number,
             cause: cause.number(),
         })),
     }
 }
 
-/// What all lines of a text give.
-pub fn gather(alloc: Global, text: &[u8]) -> Result<Gathered, ReadError>
-    requires { length text.now ≤ 4_194_304 }
-    ensures ok { IfOk result (λ gathered. contents_of text.now ≡ Ok (contents_gathered gathered)) }
-    ensures err { IfErr result (λ e. MeansLineFault e (contents_of text.now)) }
+/// Reads one more file of a source, whose first line has that running number, and answers the number behind its last line.
+fn take_file(
+    alloc: Global,
+    gathered: &mut Gathered,
+    joined: &mut Joined,
+    text: &[u8],
+    number: u32,
+) -> Result<u32, LineError>
+    requires before { IsTrue (are_before number (contents_gathered gathered.old).sets) }
+    requires names { length gathered.old.names.labels.items < number }
+    requires few { number + length text.now ≤ 4_194_305 }
+    ensures ok { IfOk result (λ next. (next ≡ number + length (lines_of text.now)) × ((files : List (List ℕ)) →
+        contents_over (contents_gathered gathered.old) number (text.now ∷ files)
+        ≡ contents_over (contents_gathered gathered.new) next files)) }
+    ensures within { IfOk result (λ next. next ≤ number + length text.now) }
+    ensures before { IfOk result (λ next. IsTrue (are_before next (contents_gathered gathered.new).sets)) }
+    ensures names { IfOk result (λ next. length gathered.new.names.labels.items < next) }
+    ensures err { IfErr result (λ e. (files : List (List ℕ)) →
+        MeansLineFault e (contents_over (contents_gathered gathered.old) number (text.now ∷ files))) }
+{
+    let mut number = number;
+    let mut rest = text;
+    while !rest.is_empty() {
+        let (line, later) = next_line(rest);
+        take_line(alloc, gathered, joined, line, number)?;
+        number += 1;
+        rest = later;
+    }
+    gathered.end_file();
+    Ok(number)
+}
+
+/// What all lines of all files give.
+pub fn gather(alloc: Global, files: &[Text]) -> Result<Gathered, LineError>
+    requires { bytes_together files.now ≤ most_bytes }
+    ensures ok { IfOk result (λ gathered. contents_of files.now ≡ Ok (contents_gathered gathered)) }
+    ensures err { IfErr result (λ e. MeansLineFault e (contents_of files.now)) }
 {
     let mut gathered = Gathered::new(alloc);
     let mut joined = Joined::new();
     let mut number = 1;
-    let mut rest = text;
-    while !rest.is_empty() {
-        let (line, later) = next_line(rest);
-        take_line(alloc, &mut gathered, &mut joined, line, number)?;
-        number += 1;
-        rest = later;
+    for text in files {
+        number = take_file(alloc, &mut gathered, &mut joined, text.as_slice(), number)?;
     }
     Ok(gathered)
 }

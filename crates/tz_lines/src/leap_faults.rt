@@ -7,7 +7,7 @@ ghost use Rattle.tz_rules.specs.Told.{told_with};
 
 use crate::leap_contents::{WrittenExpiry, WrittenLeap};
 use tz_rules::Told;
-use tz_types::{Cause, Fault};
+use tz_types::{Cause, LineFault};
 
 /// Tells a fault where the line has it.
 fn tell(told: &mut Told, holds: bool, line: u32, cause: Cause)
@@ -83,7 +83,7 @@ fn tell_early_expiries(told: &mut Told, last: Option<i64>, expiries: &[WrittenEx
 
 /// The fault at the least line, with the least cause there, where the leap seconds stand in the order of their dates and
 /// lines.
-pub fn least_leap_fault(leaps: &[WrittenLeap], expiries: &[WrittenExpiry]) -> Option<Fault>
+pub fn least_leap_fault(leaps: &[WrittenLeap], expiries: &[WrittenExpiry]) -> Option<LineFault>
     ensures { result ≡ told_with None (repeats leaps.now ++ later_expiries expiries.now ++ early_expiries (last_date leaps.now) expiries.now) }
 {
     let mut told = Told::new();

@@ -3,22 +3,22 @@ ghost use Rattle.std.specs.Prelude.{◌≡◌, ℕ, ◌+◌, ◌≤◌, ◌∷�
 ghost use Rattle.std.specs.List.Sorted.{IsPermutation, IsSorted};
 ghost use Rattle.tz_specs.specs.LeapText.{leap_fault, first_moment, leap_contents_after, leap_contents_of, ReadsLeaps};
 ghost use Rattle.tz_lines.specs.LeapContents.{contents_meant, expiry_meant, entry_meant, leap_cmp, AreGiven, IsTableOf, MeansLeapLineFault, MeansWholeLeapFault};
-ghost use Rattle.tz_lines.specs.LeapRefusal.{MeansRefusal};
+ghost use Rattle.tz_lines.specs.LeapRefusal.{MeansLeapFault, MeansRefusal};
 
-use crate::ReadError;
+use crate::error::{LineError, ReadError};
 use crate::cutting::next_line;
 use crate::leap_contents::{LeapContents, WrittenExpiry, WrittenLeap};
 use crate::leap_faults::least_leap_fault;
 use std::alloc::Global;
 use tz_records::read_leap_line;
 use tz_text::Joined;
-use tz_types::{Cause, Fault, Items, LeapEntry, Leaps, NoMemory};
+use tz_types::{Cause, Items, LeapEntry, Leaps, LineFault, NoMemory};
 
 /// Why the text is refused at a line.
-fn fault(line: u32, cause: Cause) -> ReadError
-    ensures { result ≡ ReadError.Fault (leap_fault line cause) }
+fn fault(line: u32, cause: Cause) -> LineError
+    ensures { result ≡ LineError.Fault (leap_fault line cause) }
 {
-    ReadError::Fault(Fault {
+    LineError::Fault(LineFault {
         line,
         cause: cause.number(),
     })
@@ -30,7 +30,7 @@ fn take_line(
     joined: &mut Joined,
     line: &[u8],
     number: u32,
-) -> Result<(), ReadError>
+) -> Result<(), LineError>
     ensures ok { OnOk result ((lines : List (List ℕ)) →
         leap_contents_after (contents_meant contents.old) number (line.now ∷ lines)
         ≡ leap_contents_after (contents_meant contents.new) (number + 1) lines) }
@@ -48,7 +48,7 @@ fn take_line(
 }
 
 /// What all lines of a leap text give.
-fn take_lines(alloc: Global, text: &[u8]) -> Result<LeapContents, ReadError>
+fn take_lines(alloc: Global, text: &[u8]) -> Result<LeapContents, LineError>
     requires { length text.now ≤ 4_194_304 }
     ensures ok { IfOk result (λ contents. leap_contents_of text.now ≡ Ok (contents_meant contents)) }
     ensures err { IfErr result (λ e. MeansLeapLineFault e (leap_contents_of text.now)) }
@@ -101,7 +101,7 @@ fn first_moment(expiries: &[WrittenExpiry]) -> Option<i64>
 }
 
 /// The table of what the lines of a text gave, or its least fault.
-fn table(alloc: Global, contents: LeapContents) -> Result<Leaps, ReadError>
+fn table(alloc: Global, contents: LeapContents) -> Result<Leaps, LineError>
     requires { AreGiven (contents_meant contents) }
     ensures ok { IfOk result (λ leaps. IsTableOf (contents_meant contents) leaps) }
     ensures err { IfErr result (λ e. MeansWholeLeapFault e (contents_meant contents)) }
@@ -109,10 +109,26 @@ fn table(alloc: Global, contents: LeapContents) -> Result<Leaps, ReadError>
     let LeapContents { leaps, expiries } = contents;
     let leaps = in_order(leaps)?;
     if let Some(fault) = least_leap_fault(leaps.as_slice(), expiries.as_slice()) {
-        return Err(ReadError::Fault(fault));
+        return Err(LineError::Fault(fault));
     }
     let entries = entries(alloc, leaps.as_slice())?;
     Ok(Leaps::new(alloc, entries, first_moment(expiries.as_slice()))?)
+}
+
+/// The leap table of a leap text, or its fault.
+fn leaps_of(alloc: Global, text: &[u8]) -> Result<Leaps, LineError>
+    requires { length text.now ≤ 4_194_304 }
+    ensures ok { IfOk result (λ leaps. ReadsLeaps text.now leaps) }
+    ensures refused { IfErr result (λ e. MeansLeapFault e text.now) }
+{
+    let contents = match take_lines(alloc, text) {
+        Ok(contents) => contents,
+        Err(error) => return Err(error),
+    };
+    match table(alloc, contents) {
+        Ok(leaps) => Ok(leaps),
+        Err(error) => Err(error),
+    }
 }
 
 /// The leap table of a leap text of at most 4,194,304 bytes.
@@ -134,12 +150,9 @@ pub fn read_leaps(alloc: Global, text: &[u8]) -> Result<Leaps, ReadError>
     ensures ok { IfOk result (λ leaps. ReadsLeaps text.now leaps) }
     ensures refused { IfErr result (λ e. MeansRefusal e text.now) }
 {
-    let contents = match take_lines(alloc, text) {
-        Ok(contents) => contents,
-        Err(error) => return Err(error),
-    };
-    match table(alloc, contents) {
+    match leaps_of(alloc, text) {
         Ok(leaps) => Ok(leaps),
-        Err(error) => Err(error),
+        Err(LineError::NoMemory) => Err(ReadError::NoMemory),
+        Err(LineError::Fault(fault)) => Err(ReadError::Fault(fault.in_file(0))),
     }
 }

@@ -1,6 +1,6 @@
 //! Texts to databases.
 //!
-//! `read_zones` reads a zone text whole, or refuses it with the line and the cause; `locate` finds a zone by its name.
+//! `read_zones` reads the zone texts of a source whole, or refuses it with the file, the line and the cause; `locate` finds a zone by its name.
 //! `read_leaps` reads a leap text whole, or refuses it with the line and the cause.
 //!
 //! Here stands what speaks of the lines of a text one after another, and of what they have given so far. What a line says
@@ -21,6 +21,7 @@ mod limits;
 mod line;
 mod locating;
 mod parts;
+mod places;
 mod reading;
 mod record_line;
 mod rule_sets;

@@ -1,15 +1,15 @@
 //! Whether one more record would be one too many, and whether a zone waits for a line.
 ghost use Rattle.std.specs.Prelude.{◌≡◌};
-ghost use Rattle.tz_specs.specs.Contents.{waits, exceeds_rules, exceeds_zones, exceeds_lines, exceeds_links};
+ghost use Rattle.tz_specs.specs.Contents.{last_lines, wants_line, waits, exceeds_rules, exceeds_zones, exceeds_lines, exceeds_links};
 ghost use Rattle.tz_lines.specs.Gathered.{contents_gathered};
 
 use crate::contents::Gathered;
 use crate::rule_sets::set_place;
 
 impl Gathered {
-    /// Whether the zone that was begun last waits for a line.
-    pub fn waits(&self) -> bool
-        ensures { result ≡ waits (contents_gathered self.now) }
+    /// Whether the last line of the zone that was begun last has an UNTIL.
+    fn wants_line(&self) -> bool
+        ensures { result ≡ wants_line (last_lines (contents_gathered self.now).zones) }
     {
         match self.zones.as_slice().last() {
             None => false,
@@ -18,6 +18,13 @@ impl Gathered {
                 Some(line) => line.until.is_some(),
             },
         }
+    }
+
+    /// Whether the zone that was begun last, in this file, waits for a line.
+    pub fn waits(&self) -> bool
+        ensures { result ≡ waits (contents_gathered self.now) }
+    {
+        self.begun && self.wants_line()
     }
 
     /// Whether a rule of that name would be one too many of its set, or its set one too many.

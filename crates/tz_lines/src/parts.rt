@@ -1,4 +1,4 @@
-//! What all lines of a text gave, as a database is built of it.
+//! What all lines of a source gave, as a database is built of it.
 ghost use Rattle.std.specs.Prelude.{◌≡◌};
 ghost use Rattle.tz_rules.specs.Parts.{contents_given};
 ghost use Rattle.tz_lines.specs.Gathered.{contents_gathered};
@@ -8,7 +8,7 @@ use tz_rules::Parts;
 use tz_types::VersionText;
 
 impl Gathered {
-    /// The same of a text of that version.
+    /// The same of a source of that version.
     pub fn into_parts(self, version: VersionText) -> Parts
         ensures contents { contents_given result ≡ contents_gathered self }
         ensures version { result.version ≡ version }

@@ -1,9 +1,9 @@
 ghost use Rattle.std.specs.Prelude.{◌≡◌, codes};
 ghost use Rattle.tz_specs.specs.Field.{is_white};
-ghost use Rattle.tz_specs.specs.Reads.{without_white_end, version_of_line, version_of};
+ghost use Rattle.tz_specs.specs.Reads.{without_white_end, version_of_line, version_of_text, version_of};
 
 use crate::cutting::next_line;
-use tz_types::VersionText;
+use tz_types::{Source, VersionText};
 
 /// Space, tab, newline, vertical tab, form feed or carriage return. `u8::is_ascii_whitespace` leaves out the vertical tab.
 fn is_white(byte: u8) -> bool
@@ -47,12 +47,23 @@ fn version_of_line(line: &[u8]) -> VersionText
 }
 
 /// The version that the first line of a text names, and `unknown` where it names none.
-pub fn version(text: &[u8]) -> VersionText
-    ensures { result ≡ version_of text.now }
+fn version_of_text(text: &[u8]) -> VersionText
+    ensures { result ≡ version_of_text text.now }
 {
     if text.is_empty() {
         return unknown();
     }
     let (line, _) = next_line(text);
     version_of_line(line)
+}
+
+/// The version of a source: the one given with it, or else what the first line of its first file names.
+pub fn version(source: &Source) -> VersionText
+    ensures { result ≡ version_of source.now }
+{
+    match (&source.version, source.files.as_slice().first()) {
+        (Some(version), _) => version.copied(),
+        (None, Some(file)) => version_of_text(file.as_slice()),
+        (None, None) => unknown(),
+    }
 }

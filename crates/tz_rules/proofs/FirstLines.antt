@@ -7,7 +7,7 @@ use Rattle.std.proofs.lemmas.Bool.Decides.{nat_tests}
 use Rattle.std.proofs.lemmas.Map.Text.{is_eq-slice_cmp}
 use Rattle.std.proofs.lemmas.Slice.Eq.{bytes_eq-Decides}
 use Rattle.tz_types.specs.declared.cause.Cause.TheVariants as causes
-use Rattle.tz_types.specs.declared.fault.Fault.{Fault}
+use Rattle.tz_types.specs.declared.fault.LineFault.{LineFault}
 use Rattle.tz_specs.specs.Value.{is_exactly}
 use Rattle.tz_specs.specs.Whole.{fault_where, repeated_name}
 use Rattle.tz_rules.specs.FirstLine.{first_line, lesser_line, is_after, later_name}
@@ -42,7 +42,7 @@ pub later_repeats : (least_of : List ℕ → Option ℕ) (names : List (List ℕ
 later_repeats least_of names are here =
     ap (λ repeated. fault_where repeated here.1 causes.DuplicateName) (ap (λ least. is_after least here.1) (are here.0) ∙ after_first here.0 here.1 None names)
 
-filter_agrees : {A : Type 0} (f g : A → Option Fault) → ((x : A) → f x ≡ g x) → (xs : List A) → filter_map f xs ≡ filter_map g xs
+filter_agrees : {A : Type 0} (f g : A → Option LineFault) → ((x : A) → f x ≡ g x) → (xs : List A) → filter_map f xs ≡ filter_map g xs
 filter_agrees {A} f g same [] = refl
 filter_agrees {A} f g same (x ∷ xs) = rw (same x) (rw (filter_agrees f g same xs) refl)
 

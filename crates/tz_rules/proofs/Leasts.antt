@@ -3,18 +3,18 @@ use Rattle.std.proofs.Common.{◌≡◌, true, false, IsTrue, List, [], ◌∷�
 use Rattle.std.proofs.lemmas.Bool.{cases_Bool}
 use Rattle.std.proofs.lemmas.Bool.Decides.{nat_tests}
 use Rattle.std.proofs.lemmas.List.Elements.{All-cons, All-head, All-tail, All-nil}
-use Rattle.tz_types.specs.declared.fault.Fault.{Fault}
+use Rattle.tz_types.specs.declared.fault.LineFault.{LineFault}
 use Rattle.tz_specs.specs.Whole.{is_told_before, IsLeast}
 use Rattle.tz_specs.proofs.AscendingLemmas.{first_or_later, is_first, is_later}
 use Rattle.tz_rules.specs.Told.{told_with, IsLeastOf}
 
-before_itself : (fault : Fault) → IsTrue (is_told_before fault fault)
+before_itself : (fault : LineFault) → IsTrue (is_told_before fault fault)
 before_itself fault = grind (arith, nat_tests)
 
-before_both : (a b c : Fault) → IsTrue (is_told_before a b) → IsTrue (is_told_before b c) → IsTrue (is_told_before a c)
+before_both : (a b c : LineFault) → IsTrue (is_told_before a b) → IsTrue (is_told_before b c) → IsTrue (is_told_before a c)
 before_both a b c h k = grind (arith, nat_tests)
 
-before_else : (a b : Fault) → is_told_before a b ≡ false → IsTrue (is_told_before b a)
+before_else : (a b : LineFault) → is_told_before a b ≡ false → IsTrue (is_told_before b a)
 before_else a b h = grind (arith, nat_tests)
 
 past_second : {A : Type 0} (x y z : A) (xs : List A) → Contains (x ∷ xs) z → Contains (x ∷ y ∷ xs) z
@@ -22,12 +22,12 @@ past_second {A} x y z xs h =
     ⊎_elim (λ (same : x ≡ z). subst (Contains (x ∷ y ∷ xs)) same (is_first x (y ∷ xs))) (λ (later : Contains xs z). is_later x z (y ∷ xs) (is_later y z xs later)) (first_or_later x z xs h)
 
 -- the least of one and some more
-record LeastIs (least : Option Fault) (faults : List Fault) : Type 0 where
-  pub fault : Fault
+record LeastIs (least : Option LineFault) (faults : List LineFault) : Type 0 where
+  pub fault : LineFault
   pub is : least ≡ Some fault
   pub all : IsLeast faults fault
 
-keeps_first : (first fault : Fault) (faults : List Fault) (least : Option Fault) → IsTrue (is_told_before first fault) → LeastIs least (first ∷ faults) → LeastIs least (first ∷ fault ∷ faults)
+keeps_first : (first fault : LineFault) (faults : List LineFault) (least : Option LineFault) → IsTrue (is_told_before first fault) → LeastIs least (first ∷ faults) → LeastIs least (first ∷ fault ∷ faults)
 keeps_first first fault faults least before found =
     let here = found.fault in
     let upto = All-head (λ other. IsTrue (is_told_before here other)) first faults found.all.least in
@@ -41,7 +41,7 @@ keeps_first first fault faults least before found =
       };
     }
 
-takes_next : (first fault : Fault) (faults : List Fault) (least : Option Fault) → is_told_before first fault ≡ false → LeastIs least (fault ∷ faults) → LeastIs least (first ∷ fault ∷ faults)
+takes_next : (first fault : LineFault) (faults : List LineFault) (least : Option LineFault) → is_told_before first fault ≡ false → LeastIs least (fault ∷ faults) → LeastIs least (first ∷ fault ∷ faults)
 takes_next first fault faults least not_before found =
     let here = found.fault in
     let upto = All-head (λ other. IsTrue (is_told_before here other)) fault faults found.all.least in
@@ -54,7 +54,7 @@ takes_next first fault faults least not_before found =
       };
     }
 
-told_first : (first : Fault) (faults : List Fault) → LeastIs (told_with (Some first) faults) (first ∷ faults)
+told_first : (first : LineFault) (faults : List LineFault) → LeastIs (told_with (Some first) faults) (first ∷ faults)
 told_first first [] =
     record {
       fault = first;
@@ -68,7 +68,7 @@ told_first first (fault ∷ faults) =
     (cases_Bool (is_told_before first fault))
 
 -- what was told is the least of all
-pub least_told : (faults : List Fault) (least : Option Fault) → least ≡ told_with None faults → IsLeastOf faults least
+pub least_told : (faults : List LineFault) (least : Option LineFault) → least ≡ told_with None faults → IsLeastOf faults least
 least_told [] least e = rw e refl
 least_told (fault ∷ faults) least e =
     let found = told_first fault faults in

@@ -10,7 +10,7 @@ use Rattle.std.specs.List.{list_all, filter_map, flat_map, last_or, find, slice_
 use Rattle.std.proofs.lemmas.Int.{ints}
 use Rattle.tz_types.specs.Order.{ascends, name_before}
 use Rattle.tz_types.specs.declared.cause.Cause.TheVariants as causes
-use Rattle.tz_types.specs.declared.fault.Fault.{Fault}
+use Rattle.tz_types.specs.declared.fault.LineFault.{LineFault}
 use Rattle.tz_types.specs.declared.rule_set.RuleSet.{RuleSet}
 use Rattle.tz_types.specs.declared.zone_line.LineRules.{LineRules}
 use Rattle.tz_types.specs.declared.zone_line.LineRules.TheVariants as rules
@@ -114,7 +114,7 @@ goes_on (line ∷ []) = true
 goes_on (line ∷ next ∷ lines) = is_some line.until && goes_on (next ∷ lines)
 
 -- the fault of a last line that wants another
-abbrev unfinished : List WrittenLine → Option Fault
+abbrev unfinished : List WrittenLine → Option LineFault
 unfinished lines =
     last_or None lines >>= λ line. fault_where (is_some line.until) line.line causes.NoContinuation
 

@@ -106,7 +106,7 @@ module _ (names : List (List ℕ)) (zones : List Zone) (links : List Link) (know
   ends_are steps (link ∷ some) = rw (reach_is steps link.target) (rw (ends_are steps some) refl)
 
   -- the zones that links reach are those at the ends of their ways
-  pub zones_are : (targets ends : List Stop) (places : List (Option ℕ)) → targets ≡ targets_of known links → ends ≡ map (stop_after targets (length targets)) targets → places ≡ map zone_place ends → map (name_at zones) places ≡ map (zone_of_link (record { sets = []; zones = map (written_zone names) zones; links = map written_link links })) (map written_link links)
+  pub zones_are : (targets ends : List Stop) (places : List (Option ℕ)) → targets ≡ targets_of known links → ends ≡ map (stop_after targets (length targets)) targets → places ≡ map zone_place ends → map (name_at zones) places ≡ map (zone_of_link (record { sets = []; zones = map (written_zone names) zones; links = map written_link links; begun = false })) (map written_link links)
   zones_are targets ends places targets_are ends_is places_are =
       let steps : length (targets_of known links) ≡ length (map written_link links) =
       length-map links (λ (link : Link). stop_of known link.target) ∙ sym (length-map links written_link) in

@@ -1,7 +1,7 @@
 -- The least of the lines that give a name to a zone or a link.
 use Rattle.std.specs.Prelude.{ℕ, min, nat_lt, Bool, false, if◌then◌else◌, List, [], ◌∷◌, Option, Some, None}
 use Rattle.tz_types.specs.declared.cause.Cause.TheVariants as causes
-use Rattle.tz_types.specs.declared.fault.Fault.{Fault}
+use Rattle.tz_types.specs.declared.fault.LineFault.{LineFault}
 use Rattle.tz_specs.specs.Value.{is_exactly}
 use Rattle.tz_specs.specs.Whole.{fault_where}
 
@@ -22,5 +22,5 @@ is_after None line = false
 is_after (Some least) line = nat_lt least line
 
 -- a name that has a lesser line, by the least line of each name
-abbrev pub later_name : (List ℕ → Option ℕ) → List ℕ × ℕ → Option Fault
+abbrev pub later_name : (List ℕ → Option ℕ) → List ℕ × ℕ → Option LineFault
 later_name least_of here = fault_where (is_after (least_of here.0) here.1) here.1 causes.DuplicateName

@@ -1,5 +1,5 @@
 -- What the parts that lines gave stand for: the contents of a text.
-use Rattle.std.specs.Prelude.{map}
+use Rattle.std.specs.Prelude.{false, map}
 use Rattle.tz_specs.specs.Written.{written_set, written_zone, written_link}
 use Rattle.tz_specs.specs.Contents.{Contents}
 use Rattle.tz_rules.specs.declared.parts.Parts.{Parts}
@@ -10,4 +10,5 @@ contents_given parts =
       sets = map written_set parts.sets;
       zones = map (written_zone parts.names) parts.zones;
       links = map written_link parts.links;
+      begun = false;
     }

@@ -11,7 +11,7 @@ use crate::places::set_places;
 use crate::reach::zones_reached;
 use crate::settle::settle;
 use std::alloc::Global;
-use tz_types::{Db, Fault};
+use tz_types::{Db, LineFault};
 
 /// The database of what the lines of a text gave, whose zones begin on later and later lines, as the links stand.
 ///
@@ -28,7 +28,7 @@ pub fn build(alloc: Global, parts: Parts) -> Result<Db, BuildError>
     let places = set_places(alloc, parts.sets.as_slice(), parts.names.as_slice())?;
     let reached = zones_reached(alloc, parts.zones.as_slice(), parts.links.as_slice())?;
     match least_fault(alloc, &parts, &places, &reached)? {
-        Some(Fault { line, cause }) => Err(BuildError::Fault { line, cause }),
+        Some(LineFault { line, cause }) => Err(BuildError::Fault { line, cause }),
         None => Ok(settle(alloc, parts, &places, &reached)?),
     }
 }

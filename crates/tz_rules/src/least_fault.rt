@@ -14,7 +14,7 @@ use crate::telling::Told;
 use crate::unfinished_zone::tell_unfinished_zones;
 use crate::unknown_set::tell_unknown_sets;
 use std::alloc::Global;
-use tz_types::{Fault, NoMemory};
+use tz_types::{LineFault, NoMemory};
 
 /// The fault at the least line, with the least cause there, or none where there are no faults. `places` gives the rule set of
 /// each name, and `reached` the zone of each link.
@@ -23,7 +23,7 @@ pub fn least_fault(
     parts: &Parts,
     places: &[Option<u32>],
     reached: &[Option<u32>],
-) -> Result<Option<Fault>, NoMemory>
+) -> Result<Option<LineFault>, NoMemory>
     requires places { places.now ≡ map (set_place_of parts.now.sets) parts.now.names }
     requires reached { map (name_at parts.now.zones) reached.now ≡ map (zone_of_link (contents_given parts.now)) (contents_given parts.now).links }
     ensures { IfOk result (λ least. IsLeastOf (whole_faults parts.now.sets (contents_given parts.now)) least) }

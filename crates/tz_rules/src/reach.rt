@@ -1,5 +1,5 @@
 //! The zones that links reach: the zone of the target's name, or what the target of the earliest link of that name reaches.
-ghost use Rattle.std.specs.Prelude.{◌≡◌, ◌≤◌, ℕ, [], List, length, map, IfOk};
+ghost use Rattle.std.specs.Prelude.{◌≡◌, ◌≤◌, ℕ, false, [], List, length, map, IfOk};
 ghost use Rattle.std.specs.Ordering.{nat_cmp};
 ghost use Rattle.std.specs.Cmp.Lexicographic.{slice_cmp};
 ghost use Rattle.std.specs.BTreeMap.{get};
@@ -103,7 +103,7 @@ pub fn zones_reached(
     requires few_links { length links.now ≤ most_links }
     ensures { IfOk result (λ reached. (names : List (List ℕ)) →
         map (name_at zones.now) reached.items
-        ≡ map (zone_of_link (record { sets = []; zones = map (written_zone names) zones.now; links = map written_link links.now })) (map written_link links.now)) }
+        ≡ map (zone_of_link (record { sets = []; zones = map (written_zone names) zones.now; links = map written_link links.now; begun = false })) (map written_link links.now)) }
 {
     let known = known_stops(alloc, zones, links)?;
     let targets = targets_of(alloc, &known, links)?;

@@ -5,16 +5,16 @@ ghost use Rattle.tz_specs.specs.Causes.{fault_at};
 ghost use Rattle.tz_specs.specs.Whole.{fault_where, is_told_before};
 ghost use Rattle.tz_rules.specs.Told.{lesser, told_with};
 
-use tz_types::{Cause, Fault};
+use tz_types::{Cause, LineFault};
 
 /// The fault at the least line so far, with the least cause there.
 #[derive(Clone, Copy, Debug)]
 pub struct Told {
-    pub least: Option<Fault>,
+    pub least: Option<LineFault>,
 }
 
 /// Whether the one stands at an earlier line, or at the same with a cause that isn't greater.
-fn is_told_before(fault: Fault, other: Fault) -> bool
+fn is_told_before(fault: LineFault, other: LineFault) -> bool
     ensures { result ≡ is_told_before fault other }
 {
     fault.line < other.line || (fault.line == other.line && fault.cause <= other.cause)
@@ -32,7 +32,7 @@ impl Told {
     pub fn tell(&mut self, line: u32, cause: Cause)
         ensures { self.new.least ≡ lesser self.old.least (fault_at line cause) }
     {
-        let fault = Fault {
+        let fault = LineFault {
             line,
             cause: cause.number(),
         };

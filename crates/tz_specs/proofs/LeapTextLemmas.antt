@@ -15,7 +15,7 @@ use Rattle.tz_types.specs.Limit.{most_leaps}
 use Rattle.tz_types.specs.Leap.{running_sums}
 use Rattle.tz_types.specs.declared.cause.Cause.{Cause}
 use Rattle.tz_types.specs.declared.cause.Cause.TheVariants as causes
-use Rattle.tz_types.specs.declared.fault.Fault.{Fault}
+use Rattle.tz_types.specs.declared.fault.LineFault.{LineFault}
 use Rattle.tz_types.specs.declared.leap_entry.LeapEntry.{LeapEntry}
 use Rattle.tz_types.specs.declared.leaps.Leaps.{Leaps}
 use Rattle.tz_specs.specs.Line.{lines_of}
@@ -43,21 +43,21 @@ entries_of leaps = map (λ written. written.entry) leaps
 same_leap_contents : (text : List ℕ) (a b : LeapContents) → leap_contents_of text ≡ Ok a → leap_contents_of text ≡ Ok b → a ≡ b
 same_leap_contents text a b first second = let both : Ok a ≡ Ok b = sym first ∙ second in cc
 
-given_or_refused : (text : List ℕ) (a : LeapContents) (fault : Fault) → leap_contents_of text ≡ Ok a → leap_contents_of text ≡ Err fault → ⊥
+given_or_refused : (text : List ℕ) (a : LeapContents) (fault : LineFault) → leap_contents_of text ≡ Ok a → leap_contents_of text ≡ Err fault → ⊥
 given_or_refused text a fault first second = let both : Ok a ≡ Err fault = sym first ∙ second in cc
 
-whole_fault_is_one : (text : List ℕ) (a b : Fault) → RefusesWholeLeaps text a → RefusesWholeLeaps text b → a ≡ b
+whole_fault_is_one : (text : List ℕ) (a b : LineFault) → RefusesWholeLeaps text a → RefusesWholeLeaps text b → a ≡ b
 whole_fault_is_one text a b first second =
     let contents = same_leap_contents text first.contents second.contents first.given second.given in
     least_is_one (leap_faults first.contents) a b first.least (subst (λ it. IsLeast (leap_faults it) b) (sym contents) second.least)
 
-pub one_leap_fault : (text : List ℕ) (a b : Fault) → RefusesLeaps text a → RefusesLeaps text b → a ≡ b
+pub one_leap_fault : (text : List ℕ) (a b : LineFault) → RefusesLeaps text a → RefusesLeaps text b → a ≡ b
 one_leap_fault text a b (inl first) (inl second) = let both : Err a ≡ Err b = sym first ∙ second in cc
 one_leap_fault text a b (inl first) (inr second) = absurd (given_or_refused text second.contents a second.given first)
 one_leap_fault text a b (inr first) (inl second) = absurd (given_or_refused text first.contents b first.given second)
 one_leap_fault text a b (inr first) (inr second) = whole_fault_is_one text a b first second
 
-pub read_leaps_are_not_refused : (text : List ℕ) (leaps : Leaps) (fault : Fault) → ReadsLeaps text leaps → RefusesLeaps text fault → ⊥
+pub read_leaps_are_not_refused : (text : List ℕ) (leaps : Leaps) (fault : LineFault) → ReadsLeaps text leaps → RefusesLeaps text fault → ⊥
 read_leaps_are_not_refused text leaps fault reads (inl line) = given_or_refused text reads.contents fault reads.given line
 read_leaps_are_not_refused text leaps fault reads (inr whole) =
     let contents = same_leap_contents text reads.contents whole.contents reads.given whole.given in
@@ -226,7 +226,7 @@ good_with contents number line (Some (ExpiryRecord moment)) is good =
     }
 
 -- what lines give, by what the first of them says
-abbrev pub given_by : LeapContents → ℕ → List (List ℕ) → Result (Option LeapRecord) Cause → Result LeapContents Fault
+abbrev pub given_by : LeapContents → ℕ → List (List ℕ) → Result (Option LeapRecord) Cause → Result LeapContents LineFault
 given_by contents number lines (Ok said) = leap_contents_after (with_leap_record number said contents) (number + 1) lines
 given_by contents number lines (Err cause) = Err (leap_fault number cause)
 
@@ -410,7 +410,7 @@ table text contents last given good none =
       record { contents = contents; given = given; no_fault = none; entries = sorted_permutes written; expires = refl },
     )
 
-by_faults : (text : List ℕ) (contents : LeapContents) (last : ℕ) → leap_contents_of text ≡ Ok contents → GoodLeaps contents last → (faults : List Fault) → leap_faults contents ≡ faults → ((leaps : Leaps) × ReadsLeaps text leaps) ⊎ ((fault : Fault) × RefusesLeaps text fault)
+by_faults : (text : List ℕ) (contents : LeapContents) (last : ℕ) → leap_contents_of text ≡ Ok contents → GoodLeaps contents last → (faults : List LineFault) → leap_faults contents ≡ faults → ((leaps : Leaps) × ReadsLeaps text leaps) ⊎ ((fault : LineFault) × RefusesLeaps text fault)
 by_faults text contents last given good [] is = inl (table text contents last given good is)
 by_faults text contents last given good (fault ∷ faults) is =
     let found = least_exists fault faults in
@@ -418,11 +418,11 @@ by_faults text contents last given good (fault ∷ faults) is =
     record { contents = contents; given = given; least = subst (λ it. IsLeast it found.0) (sym is) found.1 } in
     inr (found.0, inr whole)
 
-by_contents : (text : List ℕ) (outcome : Result LeapContents Fault) → leap_contents_of text ≡ outcome → ((leaps : Leaps) × ReadsLeaps text leaps) ⊎ ((fault : Fault) × RefusesLeaps text fault)
+by_contents : (text : List ℕ) (outcome : Result LeapContents LineFault) → leap_contents_of text ≡ outcome → ((leaps : Leaps) × ReadsLeaps text leaps) ⊎ ((fault : LineFault) × RefusesLeaps text fault)
 by_contents text (Err fault) is = inr (fault, inl is)
 by_contents text (Ok contents) is =
     let good = text_good text contents is in
     by_faults text contents good.0 is good.1 (leap_faults contents) refl
 
-pub leaps_read_or_refused : (text : List ℕ) → ((leaps : Leaps) × ReadsLeaps text leaps) ⊎ ((fault : Fault) × RefusesLeaps text fault)
+pub leaps_read_or_refused : (text : List ℕ) → ((leaps : Leaps) × ReadsLeaps text leaps) ⊎ ((fault : LineFault) × RefusesLeaps text fault)
 leaps_read_or_refused text = by_contents text (leap_contents_of text) refl

@@ -18,6 +18,7 @@ use Rattle.tz_types.specs.declared.zone_line.ZoneLine.{ZoneLine}
 use Rattle.tz_types.specs.declared.zone.Zone.{Zone}
 use Rattle.tz_types.specs.declared.link.Link.{Link}
 use Rattle.tz_types.specs.declared.database.Db.{Db}
+use Rattle.tz_types.specs.declared.source.Source.{Source}
 use Rattle.tz_specs.specs.Choice.{◌>>=◌}
 use Rattle.tz_specs.specs.Sound.{is_known}
 use Rattle.tz_specs.specs.Value.{is_exactly}
@@ -193,10 +194,10 @@ place_of contents zones link = zone_of_link contents link >>= λ name. position 
 places-are : (contents : Contents) (db : Db) → places_of_links contents db ≡ map (place_of contents db.zones) (map written_link db.links)
 places-are contents db = sym (map_map written_link (place_of contents db.zones) db.links)
 
--- a text is read as one database
-pub one_database : (text : List ℕ) (a b : Db) → Reads text a → Reads text b → a ≡ b
-one_database text a b first second =
-    let contents = same_contents text first.contents second.contents first.given second.given in
+-- a source is read as one database
+pub one_database : (source : Source) (a b : Db) → Reads source a → Reads source b → a ≡ b
+one_database source a b first second =
+    let contents = same_contents source.files first.contents second.contents first.given second.given in
     let version = first.version ∙ sym second.version in
     let sets = same_sets a.sets b.sets (first.sets ∙ ap (λ (it : Contents). it.sets) contents ∙ sym second.sets) in
     let written = same_order first.contents.zones (map (written_zone (set_names a.sets)) a.zones) (map (written_zone (set_names b.sets)) b.zones) first.zones (rw contents second.zones) (zones_in_order a) (zones_in_order b) in

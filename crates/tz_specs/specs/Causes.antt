@@ -2,7 +2,7 @@
 use Rattle.std.specs.Prelude.{ℕ, Bool, if◌then◌else◌, List, [], ◌∷◌, Option, Some, None, Result, Ok, Err}
 use Rattle.tz_types.specs.Cause.{cause_number}
 use Rattle.tz_types.specs.declared.cause.Cause.{Cause}
-use Rattle.tz_types.specs.declared.fault.Fault.{Fault}
+use Rattle.tz_types.specs.declared.fault.LineFault.{LineFault}
 
 -- A list of causes is in rising order, each with whether it holds. The first that holds is the least.
 abbrev pub least_cause : List (Cause × Bool) → Option Cause
@@ -15,5 +15,5 @@ unless_cause None x = Ok x
 unless_cause (Some cause) x = Err cause
 
 -- why a text is refused, and at which line
-abbrev pub fault_at : ℕ → Cause → Fault
+abbrev pub fault_at : ℕ → Cause → LineFault
 fault_at number cause = record { line = number; cause = cause_number cause }

@@ -1,12 +1,12 @@
--- What the lines of a zone text give, one after another: rule sets, zones and links.
-use Rattle.std.specs.Prelude.{ℕ, ◌+◌, ◌==◌, nat_le, nat_lt, Bool, true, false, not, ◌||◌, if◌then◌else◌, List, [], ◌∷◌, ◌++◌, length, find, drop, Option, Some, None, is_some, Result, Ok, Err}
+-- What the lines of zone texts give, one after another and file after file: rule sets, zones and links.
+use Rattle.std.specs.Prelude.{ℕ, ◌+◌, ◌==◌, nat_le, nat_lt, Bool, true, false, not, ◌&&◌, ◌||◌, if◌then◌else◌, List, [], ◌∷◌, ◌++◌, length, find, drop, Option, Some, None, is_some, Result, Ok, Err}
 use Rattle.std.specs.Option.{is_none}
 use Rattle.std.specs.List.{list_any, last_or}
 use Rattle.tz_types.specs.Order.{name_before}
 use Rattle.tz_types.specs.Limit.{most_rules, most_sets, most_zones, most_lines, most_links}
 use Rattle.tz_types.specs.declared.cause.Cause.{Cause}
 use Rattle.tz_types.specs.declared.cause.Cause.TheVariants as causes
-use Rattle.tz_types.specs.declared.fault.Fault.{Fault}
+use Rattle.tz_types.specs.declared.fault.LineFault.{LineFault}
 use Rattle.tz_specs.specs.Line.{lines_of, line_length}
 use Rattle.tz_specs.specs.Field.{fields_of}
 use Rattle.tz_specs.specs.Choice.{◌>>=◌}
@@ -15,15 +15,22 @@ use Rattle.tz_specs.specs.Value.{field_at, is_exactly, is_bad_name, is_long_name
 use Rattle.tz_specs.specs.Written.{WrittenRule, WrittenSet, WrittenLine, WrittenZone, WrittenLink, Record, RuleRecord, ZoneRecord, Continuation, LinkRecord}
 use Rattle.tz_specs.specs.Record.{Kind, RuleLine, ZoneLine, LinkLine, ContinuationLine, kind_of_record, has_count, rule_causes, line_causes, link_causes, record_of}
 
--- the rule sets in the order of their names, and the zones and the links in the order of their lines
+-- The rule sets in the order of their names, the zones and the links in the order of their lines, and whether a zone was begun
+-- in the file that is read.
 pub record Contents : Type 0 where
   pub sets : List WrittenSet
   pub zones : List WrittenZone
   pub links : List WrittenLink
+  pub begun : Bool
 
 -- before any line
 abbrev pub no_contents : Contents
-no_contents = record { sets = []; zones = []; links = [] }
+no_contents = record { sets = []; zones = []; links = []; begun = false }
+
+-- at the end of a file: in the next one, no zone is begun
+abbrev pub at_end_of_file : Contents → Contents
+at_end_of_file contents =
+    record { sets = contents.sets; zones = contents.zones; links = contents.links; begun = false }
 
 -- the set has this name
 abbrev pub is_set_named : List ℕ → WrittenSet → Bool
@@ -46,17 +53,33 @@ with_line line (zone ∷ next ∷ zones) = zone ∷ with_line line (next ∷ zon
 -- the contents with one more record
 abbrev pub with_record : Record → Contents → Contents
 with_record (RuleRecord name rule) contents =
-    record { sets = with_rule name rule contents.sets; zones = contents.zones; links = contents.links }
+    record {
+      sets = with_rule name rule contents.sets;
+      zones = contents.zones;
+      links = contents.links;
+      begun = contents.begun;
+    }
 with_record (ZoneRecord name line) contents =
     record {
       sets = contents.sets;
       zones = contents.zones ++ record { name = name; lines = line ∷ [] } ∷ [];
       links = contents.links;
+      begun = true;
     }
 with_record (Continuation line) contents =
-    record { sets = contents.sets; zones = with_line line contents.zones; links = contents.links }
+    record {
+      sets = contents.sets;
+      zones = with_line line contents.zones;
+      links = contents.links;
+      begun = contents.begun;
+    }
 with_record (LinkRecord link) contents =
-    record { sets = contents.sets; zones = contents.zones; links = contents.links ++ link ∷ [] }
+    record {
+      sets = contents.sets;
+      zones = contents.zones;
+      links = contents.links ++ link ∷ [];
+      begun = contents.begun;
+    }
 
 -- the lines of the zone that was begun last
 abbrev pub last_lines : List WrittenZone → List WrittenLine
@@ -74,9 +97,9 @@ wants_line lines = wants (last_or None lines)
     wants None = false
     wants (Some line) = is_some line.until
 
--- the zone that was begun last waits for a line
+-- the zone that was begun last, in this file, waits for a line
 abbrev pub waits : Contents → Bool
-waits contents = wants_line (last_lines contents.zones)
+waits contents = contents.begun && wants_line (last_lines contents.zones)
 
 -- The record would be one more than 512 rules of its set, 1,024 sets, 1,024 zones, 255 lines of its zone, or 4,096 links.
 
@@ -146,9 +169,9 @@ abbrev pub with_said : Option Record → Contents → Contents
 with_said None contents = contents
 with_said (Some said) contents = with_record said contents
 
--- What lines give, numbered from a number on, by what stands before them; or the fault of the first line that has a
--- cause, with its least.
-unfoldable pub contents_after : Contents → ℕ → List (List ℕ) → Result Contents Fault
+-- What lines of a file give, numbered from a number on, by what stands before them; or the fault of the first line that has
+-- a cause, with its least.
+unfoldable pub contents_after : Contents → ℕ → List (List ℕ) → Result Contents LineFault
 contents_after contents number [] = Ok contents
 contents_after contents number (line ∷ lines) =
     elim (line_says contents number line) [
@@ -156,6 +179,16 @@ contents_after contents number (line ∷ lines) =
       | Err cause ↦ Err (fault_at number cause)
     ]
 
--- what a text gives, where none of its lines has a cause
-unfoldable pub contents_of : List ℕ → Result Contents Fault
-contents_of text = contents_after no_contents 1 (lines_of text)
+-- What files give, one after another. The number of a line is its number in its file and that of all lines of the files before
+-- it.
+unfoldable pub contents_over : Contents → ℕ → List (List ℕ) → Result Contents LineFault
+contents_over contents number [] = Ok contents
+contents_over contents number (file ∷ files) =
+    elim (contents_after contents number (lines_of file)) [
+      | Ok after ↦ contents_over (at_end_of_file after) (number + length (lines_of file)) files
+      | Err fault ↦ Err fault
+    ]
+
+-- what all files of a source give, where none of their lines has a cause
+unfoldable pub contents_of : List (List ℕ) → Result Contents LineFault
+contents_of files = contents_over no_contents 1 files

@@ -5,7 +5,7 @@ use Rattle.std.specs.List.{list_any}
 use Rattle.std.specs.List.Sorted.{IsPermutation}
 use Rattle.tz_types.specs.declared.cause.Cause.{Cause}
 use Rattle.tz_types.specs.declared.cause.Cause.TheVariants as causes
-use Rattle.tz_types.specs.declared.fault.Fault.{Fault}
+use Rattle.tz_types.specs.declared.fault.LineFault.{LineFault}
 use Rattle.tz_types.specs.declared.leap_entry.LeapEntry.{LeapEntry}
 use Rattle.tz_types.specs.declared.leaps.Leaps.{Leaps}
 use Rattle.tz_specs.specs.Line.{lines_of}
@@ -42,12 +42,12 @@ with_leap_record number (Some (ExpiryRecord moment)) contents =
     record { leaps = contents.leaps; expiries = contents.expiries ++ record { moment = moment; line = number } ∷ [] }
 
 -- why a leap text is refused, and at which line
-abbrev pub leap_fault : ℕ → Cause → Fault
+abbrev pub leap_fault : ℕ → Cause → LineFault
 leap_fault number cause = fault_at number cause
 
 -- What lines give, numbered from a number on, by what stands before them; or the fault of the first line that has a
 -- cause, with its least.
-unfoldable pub leap_contents_after : LeapContents → ℕ → List (List ℕ) → Result LeapContents Fault
+unfoldable pub leap_contents_after : LeapContents → ℕ → List (List ℕ) → Result LeapContents LineFault
 leap_contents_after contents number [] = Ok contents
 leap_contents_after contents number (line ∷ lines) =
     elim (leap_line_says number (length contents.leaps) line) [
@@ -56,30 +56,30 @@ leap_contents_after contents number (line ∷ lines) =
     ]
 
 -- what a text gives, where none of its lines has a cause
-unfoldable pub leap_contents_of : List ℕ → Result LeapContents Fault
+unfoldable pub leap_contents_of : List ℕ → Result LeapContents LineFault
 leap_contents_of text = leap_contents_after no_leap_contents 1 (lines_of text)
 
 -- the fault of a line, where it has the cause
-abbrev pub leap_fault_where : Bool → ℕ → Cause → Option Fault
+abbrev pub leap_fault_where : Bool → ℕ → Cause → Option LineFault
 leap_fault_where holds number cause = only_if holds (leap_fault number cause)
 
 -- a leap second whose date an earlier line gives too
-abbrev pub repeated_leap : List WrittenLeap → WrittenLeap → Option Fault
+abbrev pub repeated_leap : List WrittenLeap → WrittenLeap → Option LineFault
 repeated_leap leaps here =
     leap_fault_where (list_any (λ other. int_eq other.entry.date here.entry.date && nat_lt other.line here.line) leaps) here.line causes.LeapRepeat
 
 -- an expiry before which another stands
-abbrev pub repeated_expiry : List WrittenExpiry → WrittenExpiry → Option Fault
+abbrev pub repeated_expiry : List WrittenExpiry → WrittenExpiry → Option LineFault
 repeated_expiry expiries here =
     leap_fault_where (list_any (λ other. nat_lt other.line here.line) expiries) here.line causes.ExpiresTwice
 
 -- an expiry that isn't after the date of every leap second
-abbrev pub early_expiry : List WrittenLeap → WrittenExpiry → Option Fault
+abbrev pub early_expiry : List WrittenLeap → WrittenExpiry → Option LineFault
 early_expiry leaps here =
     leap_fault_where (list_any (λ other. int_le here.moment other.entry.date) leaps) here.line causes.ExpiresEarly
 
 -- all faults of a leap text as a whole
-unfoldable pub leap_faults : LeapContents → List Fault
+unfoldable pub leap_faults : LeapContents → List LineFault
 leap_faults contents =
     filter_map (repeated_leap contents.leaps) contents.leaps
     ++ filter_map (repeated_expiry contents.expiries) contents.expiries
@@ -99,11 +99,11 @@ pub record ReadsLeaps (text : List ℕ) (leaps : Leaps) : Type 0 where
   pub expires : leaps.expires ≡ first_moment contents.expiries
 
 -- The text as a whole is refused: this is the least fault of what its lines give.
-pub record RefusesWholeLeaps (text : List ℕ) (fault : Fault) : Type 0 where
+pub record RefusesWholeLeaps (text : List ℕ) (fault : LineFault) : Type 0 where
   pub contents : LeapContents
   pub given : leap_contents_of text ≡ Ok contents
   pub least : IsLeast (leap_faults contents) fault
 
 -- the text is refused, by one of its lines or as a whole
-abbrev pub RefusesLeaps : List ℕ → Fault → Type 0
+abbrev pub RefusesLeaps : List ℕ → LineFault → Type 0
 RefusesLeaps text fault = (leap_contents_of text ≡ Err fault) ⊎ RefusesWholeLeaps text fault

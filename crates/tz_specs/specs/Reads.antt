@@ -1,9 +1,11 @@
--- What a zone text says, or why it is refused, after zic(8).
-use Rattle.std.specs.Prelude.{◌≡◌, ℕ, nat_le, nat_eq, Bool, ◌&&◌, ◌⊎◌, if◌then◌else◌, List, [], ◌∷◌, length, map, drop, codes, position, Option, Some, Ok, Err, IsTrue}
+-- What the zone texts of a source say, or why they are refused, after zic(8).
+use Rattle.std.specs.Prelude.{◌≡◌, ℕ, suc, ◌-◌, nat_le, nat_eq, Bool, ◌&&◌, ◌⊎◌, if◌then◌else◌, List, [], ◌∷◌, length, map, drop, codes, position, Option, Some, None, Ok, Err, IsTrue}
 use Rattle.std.specs.List.{list_all, starts_with}
 use Rattle.std.specs.List.Sorted.{IsPermutation}
 use Rattle.tz_types.specs.Text.{is_printable}
 use Rattle.tz_types.specs.declared.fault.Fault.{Fault}
+use Rattle.tz_types.specs.declared.fault.LineFault.{LineFault}
+use Rattle.tz_types.specs.declared.source.Source.{Source}
 use Rattle.tz_types.specs.declared.rule_set.RuleSet.{RuleSet}
 use Rattle.tz_types.specs.declared.database.Db.{Db}
 use Rattle.tz_specs.specs.Line.{lines_of}
@@ -27,44 +29,75 @@ without_white_end (byte ∷ bytes) =
 abbrev pub is_version : List ℕ → Bool
 is_version bytes = nat_le 1 (length bytes) && nat_le (length bytes) 64 && list_all is_printable bytes
 
--- the version of a text is what its first line `# version VERSION` says
+-- the version that a first line `# version VERSION` names
 abbrev pub version_of_line : List ℕ → List ℕ
 version_of_line line =
     let version = without_white_end (drop 10 line) in
     if starts_with nat_eq line (codes "# version ") && is_version version then version else codes "unknown"
 
-unfoldable pub version_of : List ℕ → List ℕ
-version_of text = by_lines (lines_of text)
+-- the version that a text names
+unfoldable pub version_of_text : List ℕ → List ℕ
+version_of_text text = by_lines (lines_of text)
   where
     by_lines : List (List ℕ) → List ℕ
     by_lines [] = codes "unknown"
     by_lines (line ∷ lines) = version_of_line line
+
+-- The version of a source is the one given with it, or else what its first file names.
+abbrev pub version_of : Source → List ℕ
+version_of source = by_given source.version source.files
+  where
+    by_files : List (List ℕ) → List ℕ
+    by_files [] = codes "unknown"
+    by_files (file ∷ files) = version_of_text file
+    by_given : Option (List ℕ) → List (List ℕ) → List ℕ
+    by_given None files = by_files files
+    by_given (Some version) files = version
 
 -- the place of the zone to which each link leads, by the zones of the database
 abbrev pub places_of_links : Contents → Db → List (Option ℕ)
 places_of_links contents db =
     map (λ link. zone_of_link contents (written_link link) >>= λ name. position (λ zone. is_exactly zone.name name) db.zones) db.links
 
--- The text has no fault, and the database is what its lines give.
-pub record Reads (text : List ℕ) (db : Db) : Type 0 where
+-- The source has no fault, and the database is what its lines give.
+pub record Reads (source : Source) (db : Db) : Type 0 where
   pub contents : Contents
-  pub given : contents_of text ≡ Ok contents
+  pub given : contents_of source.files ≡ Ok contents
   pub no_fault : whole_faults db.sets contents ≡ []
-  pub version : db.version ≡ version_of text
+  pub version : db.version ≡ version_of source
   pub sets : map written_set db.sets ≡ contents.sets
   pub zones : IsPermutation contents.zones (map (written_zone (set_names db.sets)) db.zones)
   pub links : IsPermutation contents.links (map written_link db.links)
   pub places : map (λ link. Some link.zone) db.links ≡ places_of_links contents db
   pub known : IsTrue (list_all (λ zone. list_all (λ line. is_known db.sets line.rules) zone.lines) db.zones)
 
--- The text as a whole is refused: its lines give rule sets, zones and links, and this is the least of their faults.
-pub record RefusesWhole (text : List ℕ) (fault : Fault) : Type 0 where
+-- The files as a whole are refused: their lines give rule sets, zones and links, and this is the least of their faults.
+pub record RefusesWhole (files : List (List ℕ)) (fault : LineFault) : Type 0 where
   pub contents : Contents
-  pub given : contents_of text ≡ Ok contents
+  pub given : contents_of files ≡ Ok contents
   pub sets : List RuleSet
   pub sets_are : map written_set sets ≡ contents.sets
   pub least : IsLeast (whole_faults sets contents) fault
 
--- the text is refused, by one of its lines or as a whole
-abbrev pub Refuses : List ℕ → Fault → Type 0
-Refuses text fault = (contents_of text ≡ Err fault) ⊎ RefusesWhole text fault
+-- The files are refused, by one of their lines or as a whole. The lines of all files are counted through.
+abbrev pub RefusesFiles : List (List ℕ) → LineFault → Type 0
+RefusesFiles files fault = (contents_of files ≡ Err fault) ⊎ RefusesWhole files fault
+
+-- The file that has the line of a running number, by that file's number and the line's number in it. The first of the files has
+-- this number.
+abbrev pub line_in : ℕ → List (List ℕ) → ℕ → ℕ × ℕ
+line_in file [] line = (file, line)
+line_in file (text ∷ texts) line =
+    if nat_le line (length (lines_of text)) then (file, line)
+    else line_in (suc file) texts (line - length (lines_of text))
+
+-- Files are numbered from 1 where there is more than one; where there is one alone, its number is 0.
+abbrev pub place_in : List (List ℕ) → ℕ → ℕ × ℕ
+place_in (file ∷ []) line = (0, line)
+place_in files line = line_in 1 files line
+
+-- the source is refused, with that cause at that line of that file
+pub record Refuses (source : Source) (fault : Fault) : Type 0 where
+  pub line : ℕ
+  pub refused : RefusesFiles source.files (record { line = line; cause = fault.cause })
+  pub place : (fault.file, fault.line) ≡ place_in source.files line

@@ -4,7 +4,7 @@ use Rattle.std.specs.Option.{is_none}
 use Rattle.std.specs.List.{list_any, last_or}
 use Rattle.tz_types.specs.declared.cause.Cause.{Cause}
 use Rattle.tz_types.specs.declared.cause.Cause.TheVariants as causes
-use Rattle.tz_types.specs.declared.fault.Fault.{Fault}
+use Rattle.tz_types.specs.declared.fault.LineFault.{LineFault}
 use Rattle.tz_types.specs.declared.rule_set.RuleSet.{RuleSet}
 use Rattle.tz_specs.specs.Choice.{◌>>=◌, only_if}
 use Rattle.tz_specs.specs.Causes.{fault_at}
@@ -15,11 +15,11 @@ use Rattle.tz_specs.specs.Written.{WrittenRules, WrittenLine, WrittenZone, Writt
 use Rattle.tz_specs.specs.Contents.{Contents}
 
 -- the fault of a line, where it has the cause
-abbrev pub fault_where : Bool → ℕ → Cause → Option Fault
+abbrev pub fault_where : Bool → ℕ → Cause → Option LineFault
 fault_where holds number cause = only_if holds (fault_at number cause)
 
 -- the last line of a zone, where it has an UNTIL and nothing follows it
-abbrev pub missing_continuation : WrittenZone → Option Fault
+abbrev pub missing_continuation : WrittenZone → Option LineFault
 missing_continuation zone =
     last_or None zone.lines >>= λ line. fault_where (is_some line.until) line.line causes.NoContinuation
 
@@ -30,7 +30,7 @@ following_in sets (FixedSave save daylight) = Some (Fixed save daylight)
 following_in sets (RulesNamed name) = option_map Rules (find (λ set. is_exactly set.name name) sets)
 
 -- a line whose rule set has no rule
-abbrev pub unknown_rule : List RuleSet → WrittenLine → Option Fault
+abbrev pub unknown_rule : List RuleSet → WrittenLine → Option LineFault
 unknown_rule sets line = fault_where (is_none (following_in sets line.rules)) line.line causes.UnknownRule
 
 -- a name, and the line that gives it to a zone or a link
@@ -46,7 +46,7 @@ names_given contents =
     filter_map zone_name contents.zones ++ map (λ link. (link.name, link.line)) contents.links
 
 -- a name that an earlier line gives too
-abbrev pub repeated_name : List (List ℕ × ℕ) → List ℕ × ℕ → Option Fault
+abbrev pub repeated_name : List (List ℕ × ℕ) → List ℕ × ℕ → Option LineFault
 repeated_name names here =
     fault_where (list_any (λ other. is_exactly other.0 here.0 && nat_lt other.1 here.1) names) here.1 causes.DuplicateName
 
@@ -67,7 +67,7 @@ abbrev pub zone_of_link : Contents → WrittenLink → Option (List ℕ)
 zone_of_link contents link = reached contents.zones contents.links (length contents.links) link.target
 
 -- a link that leads to no zone
-abbrev pub missing_target : Contents → WrittenLink → Option Fault
+abbrev pub missing_target : Contents → WrittenLink → Option LineFault
 missing_target contents link = fault_where (is_none (zone_of_link contents link)) link.line causes.LinkTarget
 
 -- when a line with an UNTIL ends, where its rule set is known
@@ -77,7 +77,7 @@ finish_in sets line =
 
 -- The lines of a zone, from a start on, that end no later than they start. Behind a line whose rule set is unknown, nobody
 -- asks.
-abbrev pub late_lines : List RuleSet → ℤ → List WrittenLine → List Fault
+abbrev pub late_lines : List RuleSet → ℤ → List WrittenLine → List LineFault
 late_lines sets start [] = []
 late_lines sets start (line ∷ lines) =
     elim (finish_in sets line) [
@@ -88,7 +88,7 @@ late_lines sets start (line ∷ lines) =
     ]
 
 -- all faults of a text as a whole, where its rule sets are these
-unfoldable pub whole_faults : List RuleSet → Contents → List Fault
+unfoldable pub whole_faults : List RuleSet → Contents → List LineFault
 whole_faults sets contents =
     filter_map missing_continuation contents.zones
     ++ flat_map (λ zone. filter_map (unknown_rule sets) zone.lines) contents.zones
@@ -97,11 +97,11 @@ whole_faults sets contents =
     ++ flat_map (λ zone. late_lines sets first_instant zone.lines) contents.zones
 
 -- an earlier line, or the same line and a cause that isn't greater
-abbrev pub is_told_before : Fault → Fault → Bool
+abbrev pub is_told_before : LineFault → LineFault → Bool
 is_told_before fault other =
     nat_lt fault.line other.line || ((fault.line == other.line) && nat_le fault.cause other.cause)
 
 -- of these faults the one at the least line, with the least cause there
-pub record IsLeast (faults : List Fault) (fault : Fault) : Type 0 where
+pub record IsLeast (faults : List LineFault) (fault : LineFault) : Type 0 where
   pub among : Contains faults fault
   pub least : All (λ other. IsTrue (is_told_before fault other)) faults

@@ -60,6 +60,6 @@ pub use range_laws::{
 };
 pub use rules_followed_laws::most_rules_followed_is_the_greatest;
 pub use state_laws::{state_holds_at_its_instant, state_is_last_come};
-pub use text_laws::{at_most_one_database, at_most_one_fault, read_texts_are_not_refused};
+pub use text_laws::{at_most_one_database, at_most_one_fault, read_sources_are_not_refused};
 pub use until_laws::{greater_untils_end_no_earlier, untils_lie_inside_time};
 pub use zone_laws::sound_zones_tell_all_times;

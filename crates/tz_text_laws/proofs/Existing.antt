@@ -1,4 +1,4 @@
--- Each text is read as a database, or refused with a fault.
+-- Each source is read as a database, or refused with a fault.
 use Rattle.std.proofs.Common.{◌≡◌, ℕ, zero, suc, ◌≤◌, ◌⊎◌, inl, inr, true, false, ◌&&◌, ◌||◌, ◌==◌, nat_le, nat_lt, IsTrue, List, [], ◌∷◌, ◌++◌, length, map, filter_map, flat_map, Result, Ok, Err, refl, sym, ap, ◌∙◌, ⊎_elim, arith, subst}
 use Rattle.std.specs.List.{Contains, All}
 use Rattle.std.specs.List.Sorted.{IsPermutation}
@@ -9,6 +9,8 @@ use Rattle.std.proofs.lemmas.List.Sorted.{IsPermutation-map, length_permutation}
 use Rattle.tz_types.specs.Order.{ascends, name_before}
 use Rattle.tz_types.specs.Limit.{most_zones, most_links}
 use Rattle.tz_types.specs.declared.fault.Fault.{Fault}
+use Rattle.tz_types.specs.declared.fault.LineFault.{LineFault}
+use Rattle.tz_types.specs.declared.source.Source.{Source}
 use Rattle.tz_types.specs.declared.rule_set.RuleSet.{RuleSet}
 use Rattle.tz_types.specs.declared.zone.Zone.{Zone}
 use Rattle.tz_types.specs.declared.link.Link.{Link}
@@ -17,10 +19,10 @@ use Rattle.tz_specs.specs.Expansion.{first_instant}
 use Rattle.tz_specs.specs.Written.{WrittenSet, WrittenZone, WrittenLink, set_names, written_set, written_zone, written_link}
 use Rattle.tz_specs.specs.Contents.{Contents, contents_of}
 use Rattle.tz_specs.specs.Whole.{unknown_rule, missing_continuation, missing_target, zone_name, names_given, repeated_name, late_lines, whole_faults, is_told_before, IsLeast}
-use Rattle.tz_specs.specs.Reads.{version_of, Reads, RefusesWhole, Refuses}
+use Rattle.tz_specs.specs.Reads.{version_of, Reads, RefusesWhole, RefusesFiles, Refuses, place_in}
 use Rattle.tz_specs.proofs.ListLemmas.{none_first, none_second}
 use Rattle.tz_specs.proofs.AscendingLemmas.{is_first, is_later}
-use Rattle.tz_text_laws.proofs.GoodContents.{GoodContents, begins, text_good}
+use Rattle.tz_text_laws.proofs.GoodContents.{GoodContents, begins, files_good}
 use Rattle.tz_text_laws.proofs.Making.{make_sets, map_map, map_length}
 use Rattle.tz_text_laws.proofs.Sorting.{sorted, sorted_permutes, sorted_ascends, Each, each_sorted, distinct_from, contains_map}
 use Rattle.tz_text_laws.proofs.Zones.{make_zones, all_known, knows, entry_of, zone_entries, no_repeat, make_links, places_are, leads_there}
@@ -112,9 +114,9 @@ made_links last sets contents zones good none there =
     let few = at_most (length links) (length contents.links) most_links count good.few_links in
     record { links = links; same = same; ascend = sorted_ascends link_name made.0 distinct; few = few; lead = each_sorted (leads_there contents zones) link_name made.0 made.1 }
 
--- a text without faults is read as a database
-database : (text : List ℕ) (contents : Contents) (last : ℕ) (sets : List RuleSet) → contents_of text ≡ Ok contents → GoodContents last contents → map written_set sets ≡ contents.sets → whole_faults sets contents ≡ [] → (db : Db) × Reads text db
-database text contents last sets given good are none =
+-- a source without faults is read as a database
+database : (source : Source) (contents : Contents) (last : ℕ) (sets : List RuleSet) → contents_of source.files ≡ Ok contents → GoodContents last contents → map written_set sets ≡ contents.sets → whole_faults sets contents ≡ [] → (db : Db) × Reads source db
+database source contents last sets given good are none =
     let parts = no_faults sets contents none in
     let zones = made_zones last sets contents good parts in
     let links = made_links last sets contents zones.zones good parts zones.same in
@@ -123,7 +125,7 @@ database text contents last sets given good are none =
     let count : length sets ≡ length contents.sets = sym (map_length written_set sets) ∙ ap length are in
     let few = good.few_sets in
     let db : Db = record {
-      version = version_of text;
+      version = version_of source;
       sets = sets;
       zones = zones.zones;
       links = links.links;
@@ -150,19 +152,19 @@ database text contents last sets given good are none =
 
 -- of some faults there is a least
 
-told_before_all : (a b c : Fault) → IsTrue (is_told_before a b) → IsTrue (is_told_before b c) → IsTrue (is_told_before a c)
+told_before_all : (a b c : LineFault) → IsTrue (is_told_before a b) → IsTrue (is_told_before b c) → IsTrue (is_told_before a c)
 told_before_all a b c first second = on_numbers a.line b.line c.line a.cause b.cause c.cause first second
   where
     on_numbers : (a b c d e f : ℕ) → IsTrue (nat_lt a b || ((a == b) && nat_le d e)) → IsTrue (nat_lt b c || ((b == c) && nat_le e f)) → IsTrue (nat_lt a c || ((a == c) && nat_le d f))
     on_numbers a b c d e f first second = grind (arith, nat_tests)
 
-or_told_before : (a b : Fault) → is_told_before a b ≡ false → IsTrue (is_told_before b a)
+or_told_before : (a b : LineFault) → is_told_before a b ≡ false → IsTrue (is_told_before b a)
 or_told_before a b h = on_numbers a.line b.line a.cause b.cause h
   where
     on_numbers : (a b d e : ℕ) → (nat_lt a b || ((a == b) && nat_le d e)) ≡ false → IsTrue (nat_lt b a || ((b == a) && nat_le e d))
     on_numbers a b d e h = grind (arith, nat_tests)
 
-told_before_itself : (a : Fault) → IsTrue (is_told_before a a)
+told_before_itself : (a : LineFault) → IsTrue (is_told_before a a)
 told_before_itself a = on_numbers a.line a.cause
   where
     on_numbers : (a d : ℕ) → IsTrue (nat_lt a a || ((a == a) && nat_le d d))
@@ -173,16 +175,16 @@ all_each P [] each place other below = absurd (omega (arith, below))
 all_each P (x ∷ xs) each zero other below = each.0
 all_each P (x ∷ xs) each (suc place) other below = all_each P xs each.1 place other (omega (arith, below))
 
-before_each : (a b : Fault) (faults : List Fault) → IsTrue (is_told_before a b) → Each (λ other. IsTrue (is_told_before b other)) faults → Each (λ other. IsTrue (is_told_before a other)) faults
+before_each : (a b : LineFault) (faults : List LineFault) → IsTrue (is_told_before a b) → Each (λ other. IsTrue (is_told_before b other)) faults → Each (λ other. IsTrue (is_told_before a other)) faults
 before_each a b [] first each = tt
 before_each a b (fault ∷ faults) first each = (told_before_all a b fault first each.0, before_each a b faults first each.1)
 
-record Leading (faults : List Fault) : Type 0 where
-  fault : Fault
+record Leading (faults : List LineFault) : Type 0 where
+  fault : LineFault
   among : Contains faults fault
   before : Each (λ other. IsTrue (is_told_before fault other)) faults
 
-leading : (fault : Fault) (faults : List Fault) → Leading (fault ∷ faults)
+leading : (fault : LineFault) (faults : List LineFault) → Leading (fault ∷ faults)
 leading fault [] = record { fault = fault; among = is_first fault []; before = (told_before_itself fault, tt) }
 leading fault (next ∷ faults) =
     let least = leading next faults in
@@ -192,22 +194,28 @@ leading fault (next ∷ faults) =
     record { fault = least.fault; among = is_later fault least.fault (next ∷ faults) least.among; before = (or_told_before fault least.fault there, least.before) })
     (cases_Bool (is_told_before fault least.fault))
 
-by_faults : (text : List ℕ) (contents : Contents) (last : ℕ) (sets : List RuleSet) → contents_of text ≡ Ok contents → GoodContents last contents → map written_set sets ≡ contents.sets → (faults : List Fault) → whole_faults sets contents ≡ faults → ((db : Db) × Reads text db) ⊎ ((fault : Fault) × Refuses text fault)
-by_faults text contents last sets given good are [] is = inl (database text contents last sets given good are is)
-by_faults text contents last sets given good are (fault ∷ faults) is =
+-- a fault of the files is one of the source, by its place
+refusal : (source : Source) (fault : LineFault) → RefusesFiles source.files fault → (fault : Fault) × Refuses source fault
+refusal source fault refused =
+    let place = place_in source.files fault.line in
+    (record { file = place.0; line = place.1; cause = fault.cause }, record { line = fault.line; refused = refused; place = refl })
+
+by_faults : (source : Source) (contents : Contents) (last : ℕ) (sets : List RuleSet) → contents_of source.files ≡ Ok contents → GoodContents last contents → map written_set sets ≡ contents.sets → (faults : List LineFault) → whole_faults sets contents ≡ faults → ((db : Db) × Reads source db) ⊎ ((fault : Fault) × Refuses source fault)
+by_faults source contents last sets given good are [] is = inl (database source contents last sets given good are is)
+by_faults source contents last sets given good are (fault ∷ faults) is =
     let least = leading fault faults in
     let told : IsLeast (fault ∷ faults) least.fault =
     record { among = least.among; least = all_each (λ other. IsTrue (is_told_before least.fault other)) (fault ∷ faults) least.before } in
-    let whole : RefusesWhole text least.fault =
+    let whole : RefusesWhole source.files least.fault =
     record { contents = contents; given = given; sets = sets; sets_are = are; least = subst (λ it. IsLeast it least.fault) (sym is) told } in
-    inr (least.fault, inr whole)
+    inr (refusal source least.fault (inr whole))
 
-by_contents : (text : List ℕ) (outcome : Result Contents Fault) → contents_of text ≡ outcome → ((db : Db) × Reads text db) ⊎ ((fault : Fault) × Refuses text fault)
-by_contents text (Err fault) is = inr (fault, inl is)
-by_contents text (Ok contents) is =
-    let good = text_good text contents is in
+by_contents : (source : Source) (outcome : Result Contents LineFault) → contents_of source.files ≡ outcome → ((db : Db) × Reads source db) ⊎ ((fault : Fault) × Refuses source fault)
+by_contents source (Err fault) is = inr (refusal source fault (inl is))
+by_contents source (Ok contents) is =
+    let good = files_good source.files contents is in
     let sets = make_sets good.0 contents.sets good.1.sets in
-    by_faults text contents good.0 sets.0 is good.1 sets.1 (whole_faults sets.0 contents) refl
+    by_faults source contents good.0 sets.0 is good.1 sets.1 (whole_faults sets.0 contents) refl
 
-pub read_or_refused : (text : List ℕ) → ((db : Db) × Reads text db) ⊎ ((fault : Fault) × Refuses text fault)
-read_or_refused text = by_contents text (contents_of text) refl
+pub read_or_refused : (source : Source) → ((db : Db) × Reads source db) ⊎ ((fault : Fault) × Refuses source fault)
+read_or_refused source = by_contents source (contents_of source.files) refl

@@ -8,14 +8,14 @@ use Rattle.tz_types.specs.Order.{ascends, ascends_after, name_before}
 use Rattle.tz_types.specs.Limit.{most_rules, most_sets, most_zones, most_links}
 use Rattle.tz_types.specs.declared.cause.Cause.{Cause}
 use Rattle.tz_types.specs.declared.cause.Cause.TheVariants as causes
-use Rattle.tz_types.specs.declared.fault.Fault.{Fault}
+use Rattle.tz_types.specs.declared.fault.LineFault.{LineFault}
 use Rattle.tz_specs.specs.Line.{line_length, lines_of}
 use Rattle.tz_specs.specs.Field.{fields_of}
 use Rattle.tz_specs.specs.Causes.{least_cause, unless_cause, fault_at}
 use Rattle.tz_specs.specs.Value.{field_at, fall, years_of, is_bad_name, is_long_name, names_set}
 use Rattle.tz_specs.specs.Written.{WrittenRule, WrittenSet, WrittenLine, WrittenZone, WrittenLink, Record, RuleRecord, ZoneRecord, Continuation, LinkRecord}
 use Rattle.tz_specs.specs.Record.{Kind, RuleLine, ZoneLine, LinkLine, ContinuationLine, kind_of_record, has_count, rule_of, rule_causes, line_of, line_causes, link_of, link_causes, record_of}
-use Rattle.tz_specs.specs.Contents.{Contents, no_contents, is_set_named, with_rule, with_line, with_record, waits, is_full_set, exceeds_rules, exceeds_zones, exceeds_lines, exceeds_links, record_causes, kind_causes, field_causes, fields_or_none, causes_of_line, record_of_fields, line_says, with_said, contents_after, contents_of}
+use Rattle.tz_specs.specs.Contents.{Contents, no_contents, is_set_named, with_rule, with_line, with_record, waits, is_full_set, exceeds_rules, exceeds_zones, exceeds_lines, exceeds_links, record_causes, kind_causes, field_causes, fields_or_none, causes_of_line, record_of_fields, line_says, with_said, contents_after, at_end_of_file, contents_over, contents_of}
 use Rattle.tz_specs.proofs.AscendingLemmas.{both_hold, never_before_itself, before_later, ascends_later}
 use Rattle.tz_text_laws.proofs.Choices.{bind_some, map_some, some_same}
 use Rattle.tz_text_laws.proofs.Names.{same_name, or_before}
@@ -495,7 +495,7 @@ said_good number contents line (Some entry) h is =
     good_with number contents entry h (fields_good number contents (fields_or_none (fields_of line)) entry h.few_sets fields says.1)
 
 -- the contents after a line that says this
-abbrev after_says : ℕ → Contents → List (List ℕ) → Result (Option Record) Cause → Result Contents Fault
+abbrev after_says : ℕ → Contents → List (List ℕ) → Result (Option Record) Cause → Result Contents LineFault
 after_says number contents lines (Ok said) = contents_after (with_said said contents) (number + 1) lines
 after_says number contents lines (Err cause) = Err (fault_at number cause)
 
@@ -504,23 +504,62 @@ unfolding contents_after
 after-says line lines number contents (Ok said) is = rw (contents_after, is) refl
 after-says line lines number contents (Err cause) is = rw (contents_after, is) refl
 
-after_said : (line : List ℕ) (lines : List (List ℕ)) (number : ℕ) (contents given : Contents) → GoodContents number contents → ((said : Option Record) → GoodContents (number + 1) (with_said said contents) → contents_after (with_said said contents) (number + 1) lines ≡ Ok given → (last : ℕ) × GoodContents last given) → (says : Result (Option Record) Cause) → line_says contents number line ≡ says → after_says number contents lines says ≡ Ok given → (last : ℕ) × GoodContents last given
-after_said line lines number contents given h later (Ok said) from is = later said (said_good number contents line said h from) is
-after_said line lines number contents given h later (Err cause) from is = absurd (cc)
+after_said : (line : List ℕ) (lines : List (List ℕ)) (number last : ℕ) (contents given : Contents) → GoodContents number contents → ((said : Option Record) → GoodContents (number + 1) (with_said said contents) → contents_after (with_said said contents) (number + 1) lines ≡ Ok given → GoodContents last given) → (says : Result (Option Record) Cause) → line_says contents number line ≡ says → after_says number contents lines says ≡ Ok given → GoodContents last given
+after_said line lines number last contents given h later (Ok said) from is = later said (said_good number contents line said h from) is
+after_said line lines number last contents given h later (Err cause) from is = absurd (cc)
 
-contents_good : (lines : List (List ℕ)) (number : ℕ) (contents given : Contents) → GoodContents number contents → contents_after contents number lines ≡ Ok given → (last : ℕ) × GoodContents last given
+contents_good : (lines : List (List ℕ)) (number : ℕ) (contents given : Contents) → GoodContents number contents → contents_after contents number lines ≡ Ok given → GoodContents (number + length lines) given
 unfolding contents_after
 contents_good [] number contents given h is =
     let same : contents ≡ given = cc in
-    (number, subst (GoodContents number) same h)
+    let count : number ≡ number + 0 = omega arith in
+    subst (λ it. GoodContents it given) count (subst (GoodContents number) same h)
 contents_good (line ∷ lines) number contents given h is =
-    after_said line lines number contents given h (λ said good is. contents_good lines (number + 1) (with_said said contents) given good is) (line_says contents number line) refl
+    let count : number + 1 + length lines ≡ number + length (line ∷ lines) = omega arith in
+    after_said line lines number (number + length (line ∷ lines)) contents given h (λ said good is. subst (λ it. GoodContents it given) count (contents_good lines (number + 1) (with_said said contents) given good is)) (line_says contents number line) refl
     (sym (after-says line lines number contents (line_says contents number line) refl) ∙ is)
 
--- what a text gives is in its ranges
-pub text_good : (text : List ℕ) (given : Contents) → contents_of text ≡ Ok given → (last : ℕ) × GoodContents last given
+-- the contents after a file that gives this
+abbrev after_gives : ℕ → List (List ℕ) → Result Contents LineFault → Result Contents LineFault
+after_gives number files (Ok after) = contents_over (at_end_of_file after) number files
+after_gives number files (Err fault) = Err fault
+
+after-gives : (file : List ℕ) (files : List (List ℕ)) (number : ℕ) (contents : Contents) (gives : Result Contents LineFault) → contents_after contents number (lines_of file) ≡ gives → contents_over contents number (file ∷ files) ≡ after_gives (number + length (lines_of file)) files gives
+unfolding contents_over
+after-gives file files number contents (Ok after) is = rw (contents_over, is) refl
+after-gives file files number contents (Err fault) is = rw (contents_over, is) refl
+
+-- the end of a file changes no range
+ended : (number : ℕ) (contents : Contents) → GoodContents number contents → GoodContents number (at_end_of_file contents)
+ended number contents good = record {
+      sets = good.sets;
+      sets_ascend = good.sets_ascend;
+      few_sets = good.few_sets;
+      zones = good.zones;
+      zones_rise = good.zones_rise;
+      few_zones = good.few_zones;
+      links = good.links;
+      links_rise = good.links_rise;
+      few_links = good.few_links;
+    }
+
+after_file : (files : List (List ℕ)) (number : ℕ) (given : Contents) → ((contents : Contents) → GoodContents number contents → contents_over contents number files ≡ Ok given → (last : ℕ) × GoodContents last given) → (gives : Result Contents LineFault) → ((after : Contents) → gives ≡ Ok after → GoodContents number after) → after_gives number files gives ≡ Ok given → (last : ℕ) × GoodContents last given
+after_file files number given later (Ok after) good is = later (at_end_of_file after) (ended number after (good after refl)) is
+after_file files number given later (Err fault) good is = absurd (cc)
+
+over_good : (files : List (List ℕ)) (number : ℕ) (contents given : Contents) → GoodContents number contents → contents_over contents number files ≡ Ok given → (last : ℕ) × GoodContents last given
+unfolding contents_over
+over_good [] number contents given h is =
+    let same : contents ≡ given = cc in
+    (number, subst (GoodContents number) same h)
+over_good (file ∷ files) number contents given h is =
+    after_file files (number + length (lines_of file)) given (λ next good is. over_good files (number + length (lines_of file)) next given good is) (contents_after contents number (lines_of file)) (λ after gives. contents_good (lines_of file) number contents after h gives)
+    (sym (after-gives file files number contents (contents_after contents number (lines_of file)) refl) ∙ is)
+
+-- what files give is in its ranges
+pub files_good : (files : List (List ℕ)) (given : Contents) → contents_of files ≡ Ok given → (last : ℕ) × GoodContents last given
 unfolding contents_of
-text_good text given is =
+files_good files given is =
     let none : GoodContents 1 no_contents =
     record { sets = tt; sets_ascend = refl; few_sets = omega arith; zones = tt; zones_rise = refl; few_zones = omega arith; links = tt; links_rise = refl; few_links = omega arith } in
-    contents_good (lines_of text) 1 no_contents given none is
+    over_good files 1 no_contents given none is

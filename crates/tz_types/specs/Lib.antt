@@ -7,5 +7,6 @@ pub mod Format
 pub mod Saves
 pub mod Order
 pub mod Limit
+pub mod Source
 pub mod Cause
 pub mod Leap

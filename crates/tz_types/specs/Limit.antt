@@ -24,3 +24,11 @@ most_links = 4_096
 -- the leap seconds of a leap text
 abbrev pub most_leaps : ℕ
 most_leaps = 1_024
+
+-- the files of a source
+abbrev pub most_files : ℕ
+most_files = 16
+
+-- the bytes of the files of a source together, and those of a leap text
+abbrev pub most_bytes : ℕ
+most_bytes = 4_194_304

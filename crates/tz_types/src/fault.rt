@@ -1,6 +1,32 @@
-/// Why a text is refused: the line, counted from 1, and the number of the cause.
+//! Why a text is refused, and where.
+ghost use Rattle.std.specs.Prelude.{◌≡◌};
+
+/// Why a text is refused that is read alone: the line, counted from 1, and the number of the cause.
 #[derive(Clone, Copy, Debug, PartialEq, Eq, Hash)]
-pub struct Fault {
+pub struct LineFault {
     pub line: u32,
     pub cause: u8,
+}
+
+/// Why a source is refused: its file, the line of that file, counted from 1, and the number of the cause.
+///
+/// Files are counted from 1 where a source has more than one. Where it has one alone, the file is 0.
+#[derive(Clone, Copy, Debug, PartialEq, Eq, Hash)]
+pub struct Fault {
+    pub file: u32,
+    pub line: u32,
+    pub cause: u8,
+}
+
+impl LineFault {
+    /// The same fault in the file of that number.
+    pub fn in_file(self, file: u32) -> Fault
+        ensures { result ≡ record { file = file; line = self.line; cause = self.cause } }
+    {
+        Fault {
+            file,
+            line: self.line,
+            cause: self.cause,
+        }
+    }
 }

@@ -1,7 +1,7 @@
 use Rattle.std.proofs.Common.{◌≡◌, ◌-◌, length, Some, ◌∙◌}
 use Rattle.std.specs.List.{slice_get}
 use Rattle.tz_lines.proofs.LastZone.{waits_by_line}
-use Rattle.tz_lines.proofs.contents.Gathered.waits.Goals as goal
+use Rattle.tz_lines.proofs.contents.Gathered.wants_line.Goals as goal
 
 pub returns-in-Some-last : goal.returns-in-Some-last
 returns-in-Some-last c =
