@@ -20,12 +20,9 @@ use tz_lines::read_zones;
 use tz_local::{local_info, to_sys};
 use tz_rules::letters_before;
 use tz_types::{
-    Abbrev, Choose, END_OF_TIME, FIRST_INSTANT, Format, Items, Label, LocalInfo, RuleSet, Shared,
-    Steps,
+    Abbrev, Choose, END_OF_TIME, FIRST_INSTANT, Format, Items, Label, LocalInfo, MOST_BYTES,
+    RuleSet, Shared, Source, Steps,
 };
-
-/// The most bytes of a text.
-const MOST_BYTES: usize = 4_194_304;
 
 /// The seconds from 1970 to 2037.
 const SECONDS: u32 = 2_145_916_800;
@@ -167,7 +164,10 @@ fn main(rt: HostRuntime) -> io::Result<()> {
     if text.len() > MOST_BYTES {
         return Err(refused());
     }
-    let Ok(db) = read_zones(rt.alloc(), &text) else {
+    let Ok(source) = Source::of_text(rt.alloc(), text) else {
+        return Err(refused());
+    };
+    let Ok(db) = read_zones(rt.alloc(), &source) else {
         return Err(refused());
     };
     let Some(Ok(set)) = db.sets.as_slice().first().map(|set| set.share()) else {

@@ -14,10 +14,7 @@ use std::sync::ledger::{Blank, Ledger};
 use std::{env, fs, io};
 use tz_lines::read_zones;
 use tz_rules::{Taken, last_at_or_before, next_after, occurrence};
-use tz_types::{RuleSet, Steps, civil_year};
-
-/// The most bytes of a text.
-const MOST_BYTES: usize = 4_194_304;
+use tz_types::{MOST_BYTES, RuleSet, Source, Steps, civil_year};
 
 /// The standard offset, in seconds.
 const STDOFF: i64 = -18_000;
@@ -132,7 +129,10 @@ fn main(rt: HostRuntime) -> io::Result<()> {
     if text.len() > MOST_BYTES {
         return Err(refused());
     }
-    let Ok(db) = read_zones(rt.alloc(), &text) else {
+    let Ok(source) = Source::of_text(rt.alloc(), text) else {
+        return Err(refused());
+    };
+    let Ok(db) = read_zones(rt.alloc(), &source) else {
         return Err(refused());
     };
     let Some(set) = db.sets.as_slice().first() else {

@@ -4,13 +4,14 @@ use std::sync::Arc;
 use std::test::Fail;
 use tz_expand::{CompiledZone, compile, dump_zones};
 use tz_lines::read_zones;
-use tz_types::{END_OF_TIME, FIRST_INSTANT, NoMemory, Shared, SysInfo};
+use tz_types::{END_OF_TIME, FIRST_INSTANT, NoMemory, Shared, Source, SysInfo};
 
 const TEXT: &[u8] = b"Zone America/New_York -4:56:02 - LMT 1883 Nov 18 17:00u\n-5:00 - EST\n";
 
 /// The one zone of the text, ready for questions.
 fn zone(alloc: Global) -> Result<Option<CompiledZone>, NoMemory> {
-    let Ok(db) = read_zones(alloc, TEXT) else {
+    let source = Source::of_text(alloc, TEXT.to_vec(alloc)?)?;
+    let Ok(db) = read_zones(alloc, &source) else {
         return Ok(None);
     };
     if db.zones.is_empty() {

@@ -5,7 +5,7 @@ use std::test::Fail;
 use tz_expand::{CompiledZone, compile};
 use tz_lines::read_zones;
 use tz_local::{OutOfRange, ToSysError, local_info, to_sys};
-use tz_types::{Choose, FIRST_INSTANT, LocalInfo, NoMemory};
+use tz_types::{Choose, FIRST_INSTANT, LocalInfo, NoMemory, Source};
 use tz_zoned::ZonedTime;
 
 /// New York's first line, and its changes of 2023 and 2024 as lines of their own.
@@ -68,7 +68,8 @@ fn zone_of(alloc: Global, text: &[u8]) -> Result<Option<CompiledZone>, NoMemory>
     if text.len() > 4_194_304 {
         return Ok(None);
     }
-    let Ok(db) = read_zones(alloc, text) else {
+    let source = Source::of_text(alloc, text.to_vec(alloc)?)?;
+    let Ok(db) = read_zones(alloc, &source) else {
         return Ok(None);
     };
     if db.zones.is_empty() {

@@ -12,7 +12,7 @@ use std::alloc::Global;
 use std::test::Fail;
 use tz_lines::read_zones;
 use tz_rules::Taken;
-use tz_types::{Db, RuleSet, TextError};
+use tz_types::{Db, RuleSet, Source, TextError};
 
 /// Standard offsets, to both ends.
 const OFFSETS: [i64; 5] = [-86_400, -18_000, 0, 3_600, 86_400];
@@ -42,7 +42,10 @@ fn db_of(alloc: Global, text: &str) -> Result<Db, Fail> {
     if text.len() > 4_194_304 {
         return Err(Fail::from(TextError));
     }
-    match read_zones(alloc, text.as_bytes()) {
+    let Ok(source) = Source::of_text(alloc, text.as_bytes().to_vec(alloc)?) else {
+        return Err(Fail::from(TextError));
+    };
+    match read_zones(alloc, &source) {
         Ok(db) => Ok(db),
         Err(_) => Err(Fail::from(TextError)),
     }

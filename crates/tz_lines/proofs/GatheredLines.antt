@@ -1,13 +1,14 @@
 -- What lines give, one after another.
-use Rattle.std.proofs.Common.{◌≡◌, ℕ, ◌+◌, List, [], ◌∷◌, Option, Some, None, Result, Ok, Err, refl, ap, ◌∙◌}
+use Rattle.std.proofs.Common.{◌≡◌, ℕ, ◌+◌, List, [], ◌∷◌, length, Option, Some, None, Result, Ok, Err, refl, ap, ◌∙◌}
 use Rattle.tz_types.specs.declared.cause.Cause.{Cause}
 use Rattle.tz_types.specs.declared.fault.LineFault.{LineFault}
 use Rattle.tz_types.specs.Cause.{cause_number}
 use Rattle.tz_specs.specs.Line.{lines_of}
 use Rattle.tz_specs.specs.Causes.{fault_at}
 use Rattle.tz_specs.specs.Written.{Record}
-use Rattle.tz_specs.specs.Contents.{Contents, no_contents, with_record, with_said, line_says, contents_after, contents_of}
+use Rattle.tz_specs.specs.Contents.{Contents, no_contents, with_record, with_said, line_says, contents_after, at_end_of_file, contents_over, contents_of}
 use Rattle.tz_lines.specs.Gathering.{MeansLineFault}
+use Rattle.tz_lines.specs.declared.error.LineError.{LineError}
 use Rattle.tz_lines.specs.declared.error.LineError.TheVariants as errors
 
 -- what a line and those behind it give, by what the line says
@@ -47,11 +48,41 @@ pub after_all : (contents : Contents) (number : ℕ) → contents_after contents
 unfolding contents_after
 after_all contents number = refl
 
-pub text_from_none : (text : List ℕ) → contents_of text ≡ contents_after no_contents 1 (lines_of text)
-unfolding contents_of
-text_from_none text = refl
+-- what a file and those behind it give, by what the file gives
+abbrev pub files_after : ℕ → List (List ℕ) → Result Contents LineFault → Result Contents LineFault
+files_after number files (Ok after) = contents_over (at_end_of_file after) number files
+files_after number files (Err fault) = Err fault
 
--- the whole text
-pub from_none : (contents : Contents) (text : List ℕ) → contents ≡ no_contents → contents_after contents 1 (lines_of text) ≡ contents_of text
+by_given : (number : ℕ) (files : List (List ℕ)) (outcome : Result Contents LineFault) → elim outcome [ Ok after ↦ contents_over (at_end_of_file after) number files | Err fault ↦ Err fault ] ≡ files_after number files outcome
+by_given number files (Ok after) = refl
+by_given number files (Err fault) = refl
+
+pub after_file : (contents : Contents) (number : ℕ) (file : List ℕ) (files : List (List ℕ)) → contents_over contents number (file ∷ files) ≡ files_after (number + length (lines_of file)) files (contents_after contents number (lines_of file))
+unfolding contents_over
+after_file contents number file files =
+    by_given (number + length (lines_of file)) files (contents_after contents number (lines_of file))
+
+-- a file that is read
+pub after_read : (contents after : Contents) (number : ℕ) (file : List ℕ) (files : List (List ℕ)) → contents_after contents number (lines_of file) ≡ Ok after → contents_over contents number (file ∷ files) ≡ contents_over (at_end_of_file after) (number + length (lines_of file)) files
+after_read contents after number file files e =
+    after_file contents number file files ∙ ap (files_after (number + length (lines_of file)) files) e
+
+-- a file that has a fault
+pub file_refused : (error : LineError) (contents : Contents) (number : ℕ) (file : List ℕ) (files : List (List ℕ)) → MeansLineFault error (contents_after contents number (lines_of file)) → MeansLineFault error (contents_over contents number (file ∷ files))
+file_refused errors.NoMemory contents number file files h = tt
+file_refused (errors.Fault fault) contents number file files h =
+    after_file contents number file files ∙ ap (files_after (number + length (lines_of file)) files) h
+
+-- no more files
+pub over_all : (contents : Contents) (number : ℕ) → contents_over contents number [] ≡ Ok contents
+unfolding contents_over
+over_all contents number = refl
+
+pub files_from_none : (files : List (List ℕ)) → contents_of files ≡ contents_over no_contents 1 files
 unfolding contents_of
-from_none contents text e = ap (λ (it : Contents). contents_after it 1 (lines_of text)) e
+files_from_none files = refl
+
+-- all files
+pub from_none : (contents : Contents) (files : List (List ℕ)) → contents ≡ no_contents → contents_over contents 1 files ≡ contents_of files
+unfolding contents_of
+from_none contents files e = ap (λ (it : Contents). contents_over it 1 files) e

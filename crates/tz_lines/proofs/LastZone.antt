@@ -16,8 +16,9 @@ use Rattle.tz_rules.specs.Continued.{are_continued}
 use Rattle.tz_lines.specs.LastZone.{with_zone_line}
 
 -- the contents of sets and links as they stand, and of zones as they are written
-abbrev pub contents_by : List RuleSet → List Link → List WrittenZone → Contents
-contents_by sets links zones = record { sets = map written_set sets; zones = zones; links = map written_link links }
+abbrev pub contents_by : Bool → List RuleSet → List Link → List WrittenZone → Contents
+contents_by begun sets links zones =
+    record { sets = map written_set sets; zones = zones; links = map written_link links; begun = begun }
 
 last_at : {X : Type 0} (xs : List X) → slice_get xs (length xs - 1) ≡ last_or None xs
 last_at [] = refl

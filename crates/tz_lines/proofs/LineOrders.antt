@@ -1,19 +1,20 @@
 -- The zones of a text begin one after another, and its links stand one after another.
-use Rattle.std.proofs.Common.{◌≡◌, ℕ, ◌+◌, true, not, ◌&&◌, nat_lt, IsTrue, List, [], ◌∷◌, ◌++◌, map, Option, Some, None, Result, Ok, Err, refl, sym, ap, ◌∙◌, arith}
+use Rattle.std.proofs.Common.{◌≡◌, ℕ, ◌+◌, true, not, ◌&&◌, nat_lt, IsTrue, List, [], ◌∷◌, ◌++◌, length, map, Option, Some, None, Result, Ok, Err, refl, sym, ap, ◌∙◌, arith, subst}
 use Rattle.std.specs.List.{cons_option, filter_map}
 use Rattle.std.proofs.lemmas.Bool.{and_parts, and_from}
 use Rattle.std.proofs.lemmas.Bool.Decides.{nat_tests}
 use Rattle.std.proofs.lemmas.List.{map-append}
 use Rattle.tz_types.specs.Order.{ascends, ascends_after}
 use Rattle.tz_types.specs.declared.cause.Cause.{Cause}
+use Rattle.tz_types.specs.declared.fault.LineFault.{LineFault}
 use Rattle.tz_specs.specs.Line.{lines_of}
 use Rattle.tz_specs.specs.Written.{WrittenLine, WrittenZone, WrittenLink, Record, RuleRecord, ZoneRecord, Continuation, LinkRecord}
-use Rattle.tz_specs.specs.Contents.{Contents, wants_line, last_lines, waits, exceeds_lines, with_line, with_record, no_contents, line_says, contents_after, contents_of}
+use Rattle.tz_specs.specs.Contents.{Contents, wants_line, last_lines, waits, exceeds_lines, with_line, with_record, no_contents, at_end_of_file, line_says, contents_after, contents_over, contents_of}
 use Rattle.tz_specs.specs.Whole.{zone_name}
 use Rattle.tz_rules.specs.LineOrder.{begin_in_order, link_in_order}
 use Rattle.tz_lines.specs.Following.{are_before}
 use Rattle.tz_lines.proofs.Records.{Follows, follows, still_before}
-use Rattle.tz_lines.proofs.GatheredLines.{given_by, after_line, after_all, text_from_none}
+use Rattle.tz_lines.proofs.GatheredLines.{given_by, after_line, after_all, files_after, after_file, over_all, files_from_none}
 
 -- the lines at which zones begin
 abbrev begins : List WrittenZone → List ℕ
@@ -117,8 +118,9 @@ said_before number contents (ZoneRecord name line) follows h =
     }
 said_before number contents (Continuation line) follows h =
     let waiting : waits contents ≡ true = (and_parts (waits contents) (not (exceeds_lines contents)) follows.may).0 in
+    let wanted = (and_parts contents.begun (wants_line (last_lines contents.zones)) waiting).1 in
     record {
-      zones = rw (zone_continued contents.zones line waiting) (later_last (begins contents.zones) number h.zones);
+      zones = rw (zone_continued contents.zones line wanted) (later_last (begins contents.zones) number h.zones);
       links = later_last (links_at contents.links) number h.links;
     }
 said_before number contents (LinkRecord link) follows h =
@@ -132,32 +134,56 @@ record InOrder (contents : Contents) : Type 0 where
   zones : ascends nat_lt (begins contents.zones) ≡ true
   links : ascends nat_lt (links_at contents.links) ≡ true
 
-by_line : (contents final : Contents) (number : ℕ) (line : List ℕ) (lines : List (List ℕ)) (said : Result (Option Record) Cause) → line_says contents number line ≡ said → given_by contents number lines said ≡ Ok final → StandBefore number contents → IsTrue (are_before number contents.sets) → ((next : Contents) → contents_after next (number + 1) lines ≡ Ok final → StandBefore (number + 1) next → IsTrue (are_before (number + 1) next.sets) → InOrder final) → InOrder final
-by_line contents final number line lines (Ok None) e given h before next =
-    next contents given (still_stand number contents h) (still_before number contents.sets before)
-by_line contents final number line lines (Ok (Some said)) e given h before next =
-    let it = follows contents number line said e before in
-    next (with_record said contents) given (said_before number contents said it h) it.before
-by_line contents final number line lines (Err cause) e given h before next = cc
+-- all of it before a line: rules, zones and links
+record Stand (number : ℕ) (contents : Contents) : Type 0 where
+  order : StandBefore number contents
+  before : IsTrue (are_before number contents.sets)
 
-in_order : (contents final : Contents) (number : ℕ) (lines : List (List ℕ)) → contents_after contents number lines ≡ Ok final → StandBefore number contents → IsTrue (are_before number contents.sets) → InOrder final
-in_order contents final number [] given h before =
+by_line : (contents final : Contents) (number last : ℕ) (line : List ℕ) (lines : List (List ℕ)) (said : Result (Option Record) Cause) → line_says contents number line ≡ said → given_by contents number lines said ≡ Ok final → Stand number contents → ((next : Contents) → contents_after next (number + 1) lines ≡ Ok final → Stand (number + 1) next → Stand last final) → Stand last final
+by_line contents final number last line lines (Ok None) e given h next =
+    next contents given (record { order = still_stand number contents h.order; before = still_before number contents.sets h.before })
+by_line contents final number last line lines (Ok (Some said)) e given h next =
+    let it = follows contents number line said e h.before in
+    next (with_record said contents) given (record { order = said_before number contents said it h.order; before = it.before })
+by_line contents final number last line lines (Err cause) e given h next = cc
+
+-- the lines of a file keep the order
+file_stands : (contents final : Contents) (number : ℕ) (lines : List (List ℕ)) → contents_after contents number lines ≡ Ok final → Stand number contents → Stand (number + length lines) final
+file_stands contents final number [] given h =
     let same : contents ≡ final = cc (after_all contents number) in
+    let count : number ≡ number + 0 = omega arith in
+    subst (λ it. Stand it final) count (subst (Stand number) same h)
+file_stands contents final number (line ∷ lines) given h =
+    let count : number + 1 + length lines ≡ number + length (line ∷ lines) = omega arith in
+    by_line contents final number (number + length (line ∷ lines)) line lines (line_says contents number line) refl (sym (after_line contents number line lines) ∙ given) h (λ next given stands. subst (λ it. Stand it final) count (file_stands next final (number + 1) lines given stands))
+
+-- the end of a file moves nothing
+ended : (number : ℕ) (contents : Contents) → Stand number contents → Stand number (at_end_of_file contents)
+ended number contents h =
+    record { order = record { zones = h.order.zones; links = h.order.links }; before = h.before }
+
+by_file : (number : ℕ) (files : List (List ℕ)) (final : Contents) (outcome : Result Contents LineFault) → ((after : Contents) → outcome ≡ Ok after → Stand number after) → ((next : Contents) → contents_over next number files ≡ Ok final → Stand number next → InOrder final) → files_after number files outcome ≡ Ok final → InOrder final
+by_file number files final (Ok after) stands next given = next (at_end_of_file after) given (ended number after (stands after refl))
+by_file number files final (Err fault) stands next given = cc
+
+in_order : (contents final : Contents) (number : ℕ) (files : List (List ℕ)) → contents_over contents number files ≡ Ok final → Stand number contents → InOrder final
+in_order contents final number [] given h =
+    let same : contents ≡ final = cc (over_all contents number) in
     record {
-      zones = rw (← same) (before_last (begins contents.zones) number h.zones);
-      links = rw (← same) (before_last (links_at contents.links) number h.links);
+      zones = rw (← same) (before_last (begins contents.zones) number h.order.zones);
+      links = rw (← same) (before_last (links_at contents.links) number h.order.links);
     }
-in_order contents final number (line ∷ lines) given h before =
-    by_line contents final number line lines (line_says contents number line) refl (sym (after_line contents number line lines) ∙ given) h before (λ next. in_order next final (number + 1) lines)
+in_order contents final number (file ∷ files) given h =
+    by_file (number + length (lines_of file)) files final (contents_after contents number (lines_of file)) (λ after is. file_stands contents after number (lines_of file) is h) (λ next. in_order next final (number + length (lines_of file)) files) (sym (after_file contents number file files) ∙ given)
 
-text_in_order : (text : List ℕ) (contents : Contents) → contents_of text ≡ Ok contents → InOrder contents
-text_in_order text contents given =
-    in_order no_contents contents 1 (lines_of text) (sym (text_from_none text) ∙ given) (record { zones = refl; links = refl }) refl
+files_in_order : (files : List (List ℕ)) (contents : Contents) → contents_of files ≡ Ok contents → InOrder contents
+files_in_order files contents given =
+    in_order no_contents contents 1 files (sym (files_from_none files) ∙ given) (record { order = record { zones = refl; links = refl }; before = refl })
 
--- of a text
+-- of files
 
-pub zones_in_order : (text : List ℕ) (contents : Contents) → contents_of text ≡ Ok contents → IsTrue (begin_in_order contents)
-zones_in_order text contents given = (text_in_order text contents given).zones
+pub zones_in_order : (files : List (List ℕ)) (contents : Contents) → contents_of files ≡ Ok contents → IsTrue (begin_in_order contents)
+zones_in_order files contents given = (files_in_order files contents given).zones
 
-pub links_in_order : (text : List ℕ) (contents : Contents) → contents_of text ≡ Ok contents → IsTrue (link_in_order contents)
-links_in_order text contents given = (text_in_order text contents given).links
+pub links_in_order : (files : List (List ℕ)) (contents : Contents) → contents_of files ≡ Ok contents → IsTrue (link_in_order contents)
+links_in_order files contents given = (files_in_order files contents given).links

@@ -5,7 +5,7 @@ use Rattle.std.proofs.Math.Seq.{take-suc}
 use Rattle.tz_specs.specs.Field.{is_white}
 use Rattle.tz_specs.specs.Word.{is_empty}
 use Rattle.tz_specs.specs.Line.{lines_of}
-use Rattle.tz_specs.specs.Reads.{without_white_end, version_of_line, version_of}
+use Rattle.tz_specs.specs.Reads.{without_white_end, version_of_line, version_of_text}
 
 -- white space behind all others is taken off
 white_pushed : (bytes : List ℕ) (byte : ℕ) → is_white byte ≡ true → without_white_end (bytes ++ byte ∷ []) ≡ without_white_end bytes
@@ -46,10 +46,10 @@ none_before bytes (suc end) none = absurd (omega arith)
 
 -- the first line
 
-pub version_none : version_of [] ≡ codes "unknown"
-unfolding version_of lines_of
+pub version_none : version_of_text [] ≡ codes "unknown"
+unfolding version_of_text lines_of
 version_none = refl
 
-pub version_first : (text line : List ℕ) (lines : List (List ℕ)) → lines_of text ≡ line ∷ lines → version_of text ≡ version_of_line line
-unfolding version_of
+pub version_first : (text line : List ℕ) (lines : List (List ℕ)) → lines_of text ≡ line ∷ lines → version_of_text text ≡ version_of_line line
+unfolding version_of_text
 version_first text line lines e = rw e refl

@@ -1,5 +1,5 @@
 //! What the lines of a text have given so far, with one more record.
-ghost use Rattle.std.specs.Prelude.{◌≡◌, ◌+◌, ◌<◌, ◌≤◌, ◌^◌, length, IsTrue, IfOk, OnOk};
+ghost use Rattle.std.specs.Prelude.{◌≡◌, ◌+◌, ◌<◌, ◌≤◌, ◌^◌, false, length, IsTrue, IfOk, OnOk};
 ghost use Rattle.tz_specs.specs.Written.{written_rule, written_line, RuleRecord, ZoneRecord, Continuation};
 ghost use Rattle.tz_specs.specs.Contents.{no_contents, at_end_of_file, with_record};
 ghost use Rattle.tz_records.specs.Entry.{written_entry, written_entry_line};
@@ -88,6 +88,7 @@ impl Gathered {
     /// Ends a file: the next one continues no zone of it.
     pub fn end_file(&mut self)
         ensures contents { contents_gathered self.new ≡ at_end_of_file (contents_gathered self.old) }
+        ensures ended { self.new.begun ≡ false }
         ensures names { length self.new.names.labels.items ≡ length self.old.names.labels.items }
     {
         self.begun = false;

@@ -1,4 +1,4 @@
-ghost use Rattle.std.specs.Prelude.{◌≡◌, ◌+◌, ◌<◌, ◌≤◌, ◌∷◌, ℕ, List, Ok, IfOk, IfErr, OnOk, length, IsTrue};
+ghost use Rattle.std.specs.Prelude.{◌≡◌, ◌+◌, ◌<◌, ◌≤◌, ◌∷◌, ℕ, false, List, Ok, IfOk, IfErr, OnOk, length, IsTrue};
 ghost use Rattle.tz_types.specs.Limit.{most_bytes};
 ghost use Rattle.tz_types.specs.Source.{bytes_together};
 ghost use Rattle.tz_specs.specs.Line.{lines_of};
@@ -46,6 +46,36 @@ fn take_line(
     }
 }
 
+/// Reads all lines of one more file of a source, whose first line has that running number, and answers the number behind its
+/// last line.
+fn take_lines(
+    alloc: Global,
+    gathered: &mut Gathered,
+    joined: &mut Joined,
+    text: &[u8],
+    number: u32,
+) -> Result<u32, LineError>
+    requires before { IsTrue (are_before number (contents_gathered gathered.old).sets) }
+    requires names { length gathered.old.names.labels.items < number }
+    requires few { number + length text.now ≤ 4_194_305 }
+    ensures ok { OnOk result (contents_after (contents_gathered gathered.old) number (lines_of text.now) ≡ Ok (contents_gathered gathered.new)) }
+    ensures next { IfOk result (λ next. next ≡ number + length (lines_of text.now)) }
+    ensures within { IfOk result (λ next. next ≤ number + length text.now) }
+    ensures before { IfOk result (λ next. IsTrue (are_before next (contents_gathered gathered.new).sets)) }
+    ensures names { IfOk result (λ next. length gathered.new.names.labels.items < next) }
+    ensures err { IfErr result (λ e. MeansLineFault e (contents_after (contents_gathered gathered.old) number (lines_of text.now))) }
+{
+    let mut next = number;
+    let mut rest = text;
+    while !rest.is_empty() {
+        let (line, later) = next_line(rest);
+        take_line(alloc, gathered, joined, line, next)?;
+        next += 1;
+        rest = later;
+    }
+    Ok(next)
+}
+
 /// Reads one more file of a source, whose first line has that running number, and answers the number behind its last line.
 fn take_file(
     alloc: Global,
@@ -57,31 +87,30 @@ fn take_file(
     requires before { IsTrue (are_before number (contents_gathered gathered.old).sets) }
     requires names { length gathered.old.names.labels.items < number }
     requires few { number + length text.now ≤ 4_194_305 }
-    ensures ok { IfOk result (λ next. (next ≡ number + length (lines_of text.now)) × ((files : List (List ℕ)) →
+    ensures ok { IfOk result (λ next. (files : List (List ℕ)) →
         contents_over (contents_gathered gathered.old) number (text.now ∷ files)
-        ≡ contents_over (contents_gathered gathered.new) next files)) }
+        ≡ contents_over (contents_gathered gathered.new) next files) }
     ensures within { IfOk result (λ next. next ≤ number + length text.now) }
+    ensures ended { OnOk result (gathered.new.begun ≡ false) }
     ensures before { IfOk result (λ next. IsTrue (are_before next (contents_gathered gathered.new).sets)) }
     ensures names { IfOk result (λ next. length gathered.new.names.labels.items < next) }
     ensures err { IfErr result (λ e. (files : List (List ℕ)) →
         MeansLineFault e (contents_over (contents_gathered gathered.old) number (text.now ∷ files))) }
 {
-    let mut number = number;
-    let mut rest = text;
-    while !rest.is_empty() {
-        let (line, later) = next_line(rest);
-        take_line(alloc, gathered, joined, line, number)?;
-        number += 1;
-        rest = later;
+    match take_lines(alloc, gathered, joined, text, number) {
+        Ok(next) => {
+            gathered.end_file();
+            Ok(next)
+        }
+        Err(error) => Err(error),
     }
-    gathered.end_file();
-    Ok(number)
 }
 
 /// What all lines of all files give.
 pub fn gather(alloc: Global, files: &[Text]) -> Result<Gathered, LineError>
     requires { bytes_together files.now ≤ most_bytes }
     ensures ok { IfOk result (λ gathered. contents_of files.now ≡ Ok (contents_gathered gathered)) }
+    ensures ended { IfOk result (λ gathered. gathered.begun ≡ false) }
     ensures err { IfErr result (λ e. MeansLineFault e (contents_of files.now)) }
 {
     let mut gathered = Gathered::new(alloc);

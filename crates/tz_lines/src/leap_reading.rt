@@ -5,8 +5,8 @@ ghost use Rattle.tz_specs.specs.LeapText.{leap_fault, first_moment, leap_content
 ghost use Rattle.tz_lines.specs.LeapContents.{contents_meant, expiry_meant, entry_meant, leap_cmp, AreGiven, IsTableOf, MeansLeapLineFault, MeansWholeLeapFault};
 ghost use Rattle.tz_lines.specs.LeapRefusal.{MeansLeapFault, MeansRefusal};
 
-use crate::error::{LineError, ReadError};
 use crate::cutting::next_line;
+use crate::error::{LineError, ReadError};
 use crate::leap_contents::{LeapContents, WrittenExpiry, WrittenLeap};
 use crate::leap_faults::least_leap_fault;
 use std::alloc::Global;

@@ -13,7 +13,15 @@ fn refuses(rt: &impl Abort, alloc: Global, text: &[u8], line: u32, cause: u8) {
     match read_leaps(alloc, text) {
         Ok(_) => assert!(rt; false, "{text:?}"),
         Err(ReadError::NoMemory) => assert!(rt; false, "{text:?}"),
-        Err(ReadError::Fault(fault)) => assert_eq!(rt; fault, Fault { line, cause }, "{text:?}"),
+        Err(ReadError::Fault(fault)) => assert_eq!(rt;
+            fault,
+            Fault {
+                file: 0,
+                line,
+                cause
+            },
+            "{text:?}"
+        ),
     }
 }
 

@@ -1,5 +1,5 @@
 //! What all lines of a source gave, as a database is built of it.
-ghost use Rattle.std.specs.Prelude.{◌≡◌};
+ghost use Rattle.std.specs.Prelude.{◌≡◌, false};
 ghost use Rattle.tz_rules.specs.Parts.{contents_given};
 ghost use Rattle.tz_lines.specs.Gathered.{contents_gathered};
 
@@ -10,6 +10,7 @@ use tz_types::VersionText;
 impl Gathered {
     /// The same of a source of that version.
     pub fn into_parts(self, version: VersionText) -> Parts
+        requires { self.begun ≡ false }
         ensures contents { contents_given result ≡ contents_gathered self }
         ensures version { result.version ≡ version }
     {

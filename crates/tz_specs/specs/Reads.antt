@@ -50,6 +50,7 @@ version_of source = by_given source.version source.files
     by_files : List (List ℕ) → List ℕ
     by_files [] = codes "unknown"
     by_files (file ∷ files) = version_of_text file
+
     by_given : Option (List ℕ) → List (List ℕ) → List ℕ
     by_given None files = by_files files
     by_given (Some version) files = version

@@ -532,16 +532,16 @@ after-gives file files number contents (Err fault) is = rw (contents_over, is) r
 -- the end of a file changes no range
 ended : (number : ℕ) (contents : Contents) → GoodContents number contents → GoodContents number (at_end_of_file contents)
 ended number contents good = record {
-      sets = good.sets;
-      sets_ascend = good.sets_ascend;
-      few_sets = good.few_sets;
-      zones = good.zones;
-      zones_rise = good.zones_rise;
-      few_zones = good.few_zones;
-      links = good.links;
-      links_rise = good.links_rise;
-      few_links = good.few_links;
-    }
+  sets = good.sets;
+  sets_ascend = good.sets_ascend;
+  few_sets = good.few_sets;
+  zones = good.zones;
+  zones_rise = good.zones_rise;
+  few_zones = good.few_zones;
+  links = good.links;
+  links_rise = good.links_rise;
+  few_links = good.few_links;
+}
 
 after_file : (files : List (List ℕ)) (number : ℕ) (given : Contents) → ((contents : Contents) → GoodContents number contents → contents_over contents number files ≡ Ok given → (last : ℕ) × GoodContents last given) → (gives : Result Contents LineFault) → ((after : Contents) → gives ≡ Ok after → GoodContents number after) → after_gives number files gives ≡ Ok given → (last : ℕ) × GoodContents last given
 after_file files number given later (Ok after) good is = later (at_end_of_file after) (ended number after (good after refl)) is

@@ -1,24 +1,38 @@
-use Rattle.std.proofs.Common.{◌≡◌, [], sym, ap, ◌∙◌, arith}
-use Rattle.tz_specs.specs.Line.{lines_of}
-use Rattle.tz_specs.specs.Contents.{Contents, contents_after}
+use Rattle.std.proofs.Common.{◌≡◌, ◌+◌, ◌<◌, ◌≤◌, List, ℕ, drop, take, length, sum_by, get_or, refl, sym, ap, ◌∙◌, arith}
+use Rattle.std.proofs.lemmas.List.{drop_all}
+use Rattle.std.proofs.lemmas.List.Sums.{sum_by_more, sum_by-take-le}
+use Rattle.tz_types.specs.Limit.{most_bytes}
+use Rattle.tz_types.specs.Source.{bytes_together}
+use Rattle.tz_specs.specs.Contents.{Contents, contents_over}
 use Rattle.tz_lines.specs.Gathered.{contents_gathered}
 use Rattle.tz_lines.specs.Following.{are_before}
-use Rattle.tz_lines.proofs.Lines.{nothing_left, lines-none}
-use Rattle.tz_lines.proofs.GatheredLines.{after_all, from_none}
+use Rattle.tz_lines.proofs.GatheredLines.{from_none, over_all}
 use Rattle.tz_lines.proofs.gathering.gather.Goals as goal
 
-pub loop-rest-init : goal.loop-rest-init
-loop-rest-init c =
+pub loop-text-init : goal.loop-text-init
+loop-text-init c =
     record {
-      same = from_none (contents_gathered c.new-gathered.result) c.args.text.now c.new-gathered.ensures.contents;
+      same = from_none (contents_gathered c.new-gathered.result) c.args.files.now c.new-gathered.ensures.contents;
+      ended = ap (λ (it : Contents). it.begun) c.new-gathered.ensures.contents;
       before = ap (λ (it : Contents). are_before 1 it.sets) c.new-gathered.ensures.contents;
       names = rw c.new-gathered.ensures.names (omega arith);
       within = omega arith;
     }
 
+-- one more file has few enough bytes
+few_more : (texts : List (List ℕ)) (place number : ℕ) (text : List ℕ) → place < length texts → text ≡ get_or texts place text → number ≤ 1 + sum_by length (take place texts) → bytes_together texts ≤ most_bytes → number + length text ≤ 4_194_305
+few_more texts place number text within is before few =
+    let next = sum_by_more length texts place text within in
+    let count : length text ≡ length (get_or texts place text) = ap length is in
+    let part = sum_by-take-le length texts (place + 1) in
+    omega (arith, next, count, before, part, few)
+
+pub take_file-requires-clause-few : goal.take_file-requires-clause-few
+take_file-requires-clause-few c =
+    let few = few_more c.args.files.now c.loop-text.text-index c.loop-text.number c.text-item.result c.loop-text-test.true c.text-item.is c.loop-text.invariant.within c.requires in
+    rw c.as_slice.ensures few
+
 pub returns-clause-ok : goal.returns-clause-ok
 returns-clause-ok c =
-    let contents = contents_gathered c.loop-rest.gathered in
-    let none = nothing_left c.loop-rest.rest.now c.loop-rest-test.ensures in
-    let lines : lines_of c.loop-rest.rest.now ≡ [] = ap lines_of none ∙ lines-none in
-    sym c.loop-rest.invariant.same ∙ ap (contents_after contents c.loop-rest.number) lines ∙ after_all contents c.loop-rest.number
+    let contents = contents_gathered c.loop-text.gathered in
+    sym c.loop-text.invariant.same ∙ ap (contents_over contents c.loop-text.number) (drop_all c.loop-text.text-index c.args.files.now c.loop-text-test.false) ∙ over_all contents c.loop-text.number

@@ -1,19 +1,16 @@
-use Rattle.std.proofs.Common.{◌≡◌, ◌+◌, ◌<◌, ◌≤◌, length, IsTrue}
-use Rattle.tz_specs.specs.Line.{lines_of}
-use Rattle.tz_specs.specs.Contents.{contents_after, contents_of}
+use Rattle.std.proofs.Common.{◌≡◌, false, ◌+◌, ◌<◌, ◌≤◌, length, drop, take, sum_by, IsTrue}
+use Rattle.tz_specs.specs.Contents.{contents_over, contents_of}
 use Rattle.tz_lines.specs.Gathered.{contents_gathered}
 use Rattle.tz_lines.specs.Following.{are_before}
 use Rattle.tz_lines.proofs.gathering.gather.Given as goal
 
--- what the text gives is what the lines so far gave and what the lines that are left give
-abbrev pub invariant-loop-rest : goal.invariant-loop-rest
-invariant-loop-rest l =
+-- what all files give is what the files so far gave and what the files that are left give
+abbrev pub invariant-loop-text : goal.invariant-loop-text
+invariant-loop-text l =
     record {
-      same : contents_after (contents_gathered l.gathered) l.number (lines_of l.rest) ≡ contents_of l.text;
+      same : contents_over (contents_gathered l.gathered) l.number (drop l.text-index l.files) ≡ contents_of l.files;
+      ended : l.gathered.begun ≡ false;
       before : IsTrue (are_before l.number (contents_gathered l.gathered).sets);
       names : length l.gathered.names.labels.items < l.number;
-      within : l.number + length l.rest ≤ 1 + length l.text;
+      within : l.number ≤ 1 + sum_by length (take l.text-index l.files);
     }
-
-abbrev pub decreases-loop-rest : goal.decreases-loop-rest
-decreases-loop-rest l = length l.rest

@@ -27,8 +27,7 @@ pub returns-in-None : goal.returns-in-None
 returns-in-None c =
     let texts = c.args.texts.now in
     let text = c.text-item.result in
-    let within : c.loop-text.text-index < length texts = c.loop-text-test.true in
-    (
+    let within : c.loop-text.text-index < length texts = c.loop-text-test.true in (
       λ none. absurd (cc),
       λ few. absurd (too_many texts c.loop-text.text-index c.loop-text.left text within c.text-item.is (λ enough. c.in-None.ensures (rw c.len.ensures enough)) c.loop-text.invariant few),
     )

@@ -3,7 +3,7 @@ use Rattle.std.proofs.lemmas.Bool.{and_parts}
 use Rattle.tz_types.specs.Limit.{most_zones}
 use Rattle.tz_types.specs.declared.zone_line.ZoneLine.{ZoneLine}
 use Rattle.tz_specs.specs.Written.{WrittenLine, Continuation, written_zone}
-use Rattle.tz_specs.specs.Contents.{with_line, with_record, waits, exceeds_lines}
+use Rattle.tz_specs.specs.Contents.{with_line, with_record, last_lines, wants_line, waits, exceeds_lines}
 use Rattle.tz_records.specs.Entry.{written_entry_line}
 use Rattle.tz_rules.specs.Continued.{is_named_by}
 use Rattle.tz_lines.specs.LastZone.{with_zone_line}
@@ -25,7 +25,8 @@ invariant_of-self-2-clause-continued c =
     let line = c.in_ok-line.line in
     let zones : c.from_vec.result ≡ with_zone_line line before.zones = c.from_vec.ensures ∙ c.in_ok-continue_last.ensures ∙ ap (with_zone_line line) (c.into_vec-zones.ensures ∙ c.replace.ensures.value) in
     let waited : IsTrue (waits (contents_gathered before)) = ap waits c.zone_line.ensures.contents ∙ (and_parts (waits (contents_gathered c.args.self.now)) (not (exceeds_lines (contents_gathered c.args.self.now))) c.requires.may).0 in
-    rw zones (continued_with before.names.labels.items line before.zones before.continued waited)
+    let wanted = (and_parts before.begun (wants_line (last_lines (contents_gathered before).zones)) waited).1 in
+    rw zones (continued_with before.names.labels.items line before.zones before.continued wanted)
 
 pub invariant_of-self-2-clause-named : goal.invariant_of-self-2-clause-named
 invariant_of-self-2-clause-named c =
@@ -40,5 +41,5 @@ returns-clause-contents c =
     let line = c.in_ok-line.line in
     let names = before.names.labels.items in
     let zones : c.from_vec.result ≡ with_zone_line line before.zones = c.from_vec.ensures ∙ c.in_ok-continue_last.ensures ∙ ap (with_zone_line line) (c.into_vec-zones.ensures ∙ c.replace.ensures.value) in
-    ap (contents_by before.sets before.links) (ap (map (written_zone names)) zones ∙ written_with_line names line before.zones ∙ ap (λ (it : WrittenLine). with_line it (map (written_zone names) before.zones)) c.in_ok-line.ensures.line)
+    ap (contents_by before.begun before.sets before.links) (ap (map (written_zone names)) zones ∙ written_with_line names line before.zones ∙ ap (λ (it : WrittenLine). with_line it (map (written_zone names) before.zones)) c.in_ok-line.ensures.line)
     ∙ ap (with_record (Continuation (written_entry_line c.args.entry))) c.zone_line.ensures.contents

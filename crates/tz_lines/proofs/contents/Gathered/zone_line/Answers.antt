@@ -11,4 +11,4 @@ invariant_of-self-clause-named c =
 pub returns-clause-contents : goal.returns-clause-contents
 returns-clause-contents c =
     let old = c.args.self.now in
-    ap (contents_by old.sets old.links) (zones_with_names old.names.labels.items c.zone_line.new.names.labels.items old.zones c.zone_line.ensures.begun old.named)
+    ap (contents_by old.begun old.sets old.links) (zones_with_names old.names.labels.items c.zone_line.new.names.labels.items old.zones c.zone_line.ensures.begun old.named)

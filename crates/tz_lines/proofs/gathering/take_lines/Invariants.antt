@@ -1,0 +1,20 @@
+use Rattle.std.proofs.Common.{◌≡◌, ◌+◌, ◌<◌, ◌≤◌, length, IsTrue}
+use Rattle.tz_specs.specs.Line.{lines_of}
+use Rattle.tz_specs.specs.Contents.{contents_after}
+use Rattle.tz_lines.specs.Gathered.{contents_gathered}
+use Rattle.tz_lines.specs.Following.{are_before}
+use Rattle.tz_lines.proofs.gathering.take_lines.Given as goal
+
+-- what the file gives is what the lines so far gave and what the lines that are left give
+abbrev pub invariant-loop-rest : goal.invariant-loop-rest
+invariant-loop-rest l =
+    record {
+      same : contents_after (contents_gathered l.gathered) l.next (lines_of l.rest) ≡ contents_after (contents_gathered l.fn.gathered) l.number (lines_of l.text);
+      count : l.next + length (lines_of l.rest) ≡ l.number + length (lines_of l.text);
+      before : IsTrue (are_before l.next (contents_gathered l.gathered).sets);
+      names : length l.gathered.names.labels.items < l.next;
+      within : l.next + length l.rest ≤ l.number + length l.text;
+    }
+
+abbrev pub decreases-loop-rest : goal.decreases-loop-rest
+decreases-loop-rest l = length l.rest
