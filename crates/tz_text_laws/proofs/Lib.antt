@@ -13,3 +13,5 @@ pub mod Continued
 pub mod Soundness
 pub mod WithinLimits
 pub mod Reaching
+pub mod SetsOfRecords
+pub mod Standing

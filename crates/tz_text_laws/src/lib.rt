@@ -2,19 +2,22 @@
 //! no code here.
 #![tactic(auto)]
 
-ghost use Rattle.std.specs.Prelude.{◌≡◌, ◌⊎◌, ◌↔◌, ℕ, List, Some, IsTrue};
-ghost use Rattle.std.specs.List.{list_all};
+ghost use Rattle.std.specs.Prelude.{◌≡◌, ◌⊎◌, ◌↔◌, ℕ, List, filter_map, slice_get, Some, Ok, IsTrue};
+ghost use Rattle.std.specs.List.{list_all, Contains};
 ghost use Rattle.tz_types.specs.Text.{IsText};
 ghost use Rattle.tz_types.specs.declared.fault.Fault.{Fault};
+ghost use Rattle.tz_types.specs.declared.zone.Zone.{Zone};
+ghost use Rattle.tz_types.specs.declared.link.Link.{Link};
 ghost use Rattle.tz_types.specs.declared.source.Source.{Source};
 ghost use Rattle.tz_types.specs.declared.database.Db.{Db};
 ghost use Rattle.tz_specs.specs.Written.{WrittenLink};
-ghost use Rattle.tz_specs.specs.Contents.{Contents};
+ghost use Rattle.tz_specs.specs.Contents.{Contents, contents_of};
 ghost use Rattle.tz_specs.specs.Whole.{zone_of_link};
 ghost use Rattle.tz_specs.specs.Sound.{is_sound};
 ghost use Rattle.tz_specs.specs.Reads.{Reads, Refuses};
 ghost use Rattle.tz_text_laws.specs.Limits.{IsVersionGiven, has_lines};
 ghost use Rattle.tz_text_laws.specs.Reaches.{Reaches};
+ghost use Rattle.tz_text_laws.specs.Records.{records_of, rule_named, rules_in, link_said};
 
 /// Each source is read as a database, or refused with a fault.
 pub fn each_source_is_read_or_refused()
@@ -37,4 +40,20 @@ pub fn read_databases_keep_limits()
 pub fn links_lead_where_their_targets_reach()
     ensures { (contents : Contents) (link : WrittenLink) (zone : List ℕ) →
         (zone_of_link contents link ≡ Some zone) ↔ Reaches contents.zones contents.links link.target zone }
+{}
+
+/// The rules of a set are those of the Rule records of its name, and the links are those of the Link records, in the order of the
+/// lines of all files.
+pub fn sets_and_links_are_those_of_records()
+    ensures rules { (files : List (List ℕ)) (contents : Contents) (name : List ℕ) → contents_of files ≡ Ok contents →
+        rules_in name contents.sets ≡ filter_map (rule_named name) (records_of files) }
+    ensures links { (files : List (List ℕ)) (contents : Contents) → contents_of files ≡ Ok contents →
+        contents.links ≡ filter_map link_said (records_of files) }
+{}
+
+/// A link of a database that a source is read as has the place of the zone that its target reaches.
+pub fn links_stand_for_zones_that_they_reach()
+    ensures { (source : Source) (db : Db) (reads : Reads source db) (link : Link) → Contains db.links link →
+        (zone : Zone) × (slice_get db.zones link.zone ≡ Some zone)
+        × Reaches reads.contents.zones reads.contents.links link.target zone.name }
 {}
