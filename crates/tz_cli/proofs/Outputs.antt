@@ -2,14 +2,17 @@
 use Rattle.std.proofs.Common.{◌≡◌, ℕ, ◌⊎◌, inl, inr, false, List, ◌++◌, take, codes, Option, IsTrue, Result, Ok, Err, Vec, refl}
 use Rattle.std.specs.declared.alloc.Global.{Global}
 use Rattle.tz_io.specs.Sink.{Appends, AppendsPart}
+use Rattle.tz_types.specs.declared.source.Source.{Source}
+use Rattle.tz_cli.specs.NamedText.{NamedText, IsSourceOf}
 use Rattle.tz_cli.specs.Command.{Command}
-use Rattle.tz_cli.specs.Answer.{comes_in_pieces}
+use Rattle.tz_cli.specs.Answer.{OfSource, comes_in_pieces}
 use Rattle.tz_cli.specs.Outcome.{Contents, IsDueFor}
 use Rattle.tz_cli.specs.Refusal.{Gives}
 use Rattle.tz_cli.specs.Output.{output_text, output_status, is_in_pieces, GivesOutput, as_output}
 use Rattle.tz_cli.specs.declared.output.Output.{Output}
 use Rattle.tz_cli.specs.declared.output.Output.TheVariants as outputs
 use Rattle.tz_cli.specs.declared.refusal.Refusal.{Refusal}
+use Rattle.tz_cli.specs.declared.refusal.Refusal.TheVariants as refusals
 use Rattle.tz_cli.specs.declared.status.Status.{Status}
 use Rattle.tz_cli.specs.declared.status.Status.TheVariants as statuses
 
@@ -49,3 +52,9 @@ part_due command told failed output had has same due printed =
         late.2,
       )
     ]
+
+-- what is an answer over the source of contents is one over the contents
+pub over_source : (text : NamedText) (contents : List (List ℕ)) (source : Source) (answers : Source → Status → List ℕ → Type 0) (result : Result Output Refusal) → IsSourceOf text contents source → GivesOutput (answers source) result → GivesOutput (λ status line. OfSource text contents (λ source. answers source status line)) result
+over_source text contents source answers (Ok output) is given = (source, is, given)
+over_source text contents source answers (Err refusals.Memory) is given = tt
+over_source text contents source answers (Err refusal) is given = (source, is, given)
