@@ -5,7 +5,7 @@ use Rattle.tz_types.specs.Limit.{most_bytes}
 use Rattle.tz_types.specs.Source.{bytes_together}
 use Rattle.tz_cli.specs.Command.{Command, Info, Local, Dump, Check, Clock, IsCommand, files_of}
 use Rattle.tz_cli.specs.Answer.{TextAnswers, IsAnswer}
-use Rattle.tz_cli.specs.Outcome.{Contents, Holds, IsDueFor, IsDue}
+use Rattle.tz_cli.specs.Outcome.{FileContents, Holds, IsDueFor, IsDue}
 use Rattle.tz_cli.specs.Refusal.{Refuses, refusal_status, refusal_line}
 use Rattle.tz_cli.specs.declared.status.Status.{Status}
 use Rattle.tz_cli.specs.declared.status.Status.TheVariants as statuses
@@ -22,17 +22,17 @@ no_usage (Dump text from to zone) contents line answer = answer.2
 no_usage (Check text) contents line answer = answer.2
 no_usage (Clock leaps conversion number) contents line answer = answer
 
-pub usage_not_due : (command : Command) (told : Option Contents) (failed : List ℕ → Type 0) (line : List ℕ) → IsDueFor command told failed statuses.Usage line → ⊥
+pub usage_not_due : (command : Command) (told : Option FileContents) (failed : List ℕ → Type 0) (line : List ℕ) → IsDueFor command told failed statuses.Usage line → ⊥
 usage_not_due command told failed line due = no_usage command due.0 line due.2.1
 
 -- what is due for a command is due for its words
-pub for_words : (words : List (List ℕ)) (told : Option Contents) (failed : List ℕ → Type 0) (command : Command) (status : Status) (line : List ℕ) → IsCommand words command → IsDueFor command told failed status line → IsDue words told failed status line
+pub for_words : (words : List (List ℕ)) (told : Option FileContents) (failed : List ℕ → Type 0) (command : Command) (status : Status) (line : List ℕ) → IsCommand words command → IsDueFor command told failed status line → IsDue words told failed status line
 for_words words told failed command statuses.Usage line is due =
     absurd (usage_not_due command told failed line due)
 for_words words told failed command status line is due = (command, is, due)
 
 -- the line of a refusal is due at its status
-pub refusal_due : (command : Command) (told : Option Contents) (failed : List ℕ → Type 0) (refusal : Refusal) → Refuses (IsDueFor command told failed) refusal → IsDueFor command told failed (refusal_status refusal) (refusal_line refusal)
+pub refusal_due : (command : Command) (told : Option FileContents) (failed : List ℕ → Type 0) (refusal : Refusal) → Refuses (IsDueFor command told failed) refusal → IsDueFor command told failed (refusal_status refusal) (refusal_line refusal)
 refusal_due command told failed refusals.Memory refused = inl refl
 refusal_due command told failed refusal refused = refused
 
@@ -45,7 +45,7 @@ large_status command contents status line large answer =
     ]
 
 -- where no read failed, one status is due beside want of memory
-pub one_due : (command : Command) (told : Option Contents) (failed : List ℕ → Type 0) (contents : List (List ℕ)) (status due : Status) (line printed : List ℕ) → AllZip (Holds told) (files_of command) contents → IsAnswer command contents status line → (Any failed (files_of command) → ⊥) → IsDueFor command told failed due printed → (due ≡ status) ⊎ (due ≡ statuses.Memory)
+pub one_due : (command : Command) (told : Option FileContents) (failed : List ℕ → Type 0) (contents : List (List ℕ)) (status due : Status) (line printed : List ℕ) → AllZip (Holds told) (files_of command) contents → IsAnswer command contents status line → (Any failed (files_of command) → ⊥) → IsDueFor command told failed due printed → (due ≡ status) ⊎ (due ≡ statuses.Memory)
 one_due command told failed contents status statuses.Read line printed are answer fine due =
     absurd (fine (some_failed told (files_of command) failed due.0))
 one_due command told failed contents status statuses.Memory line printed are answer fine due = inr refl

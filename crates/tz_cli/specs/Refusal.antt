@@ -4,7 +4,7 @@ use Rattle.std.specs.declared.alloc.Global.{Global}
 use Rattle.tz_types.specs.declared.source.Source.{Source}
 use Rattle.tz_cli.specs.Line.{fault_line}
 use Rattle.tz_specs.specs.Reads as texts
-use Rattle.tz_cli.specs.Outcome.{Contents, MayRead, FailsToRead, ReadsTooMuch}
+use Rattle.tz_cli.specs.Outcome.{FileContents, MayRead, FailsToRead, ReadsTooMuch}
 use Rattle.tz_cli.specs.declared.status.Status.{Status}
 use Rattle.tz_cli.specs.declared.status.Status.TheVariants as statuses
 use Rattle.tz_cli.specs.declared.refusal.Refusal.{Refusal}
@@ -53,7 +53,7 @@ RefusesRange reason refusals.Range = reason
 RefusesRange reason _ = ⊥
 
 -- want of memory, or a file gave no content, or the files gave too much
-abbrev pub RefusesContents : Option Contents → List (List ℕ) → (List ℕ → Type 0) → Refusal → Type 0
+abbrev pub RefusesContents : Option FileContents → List (List ℕ) → (List ℕ → Type 0) → Refusal → Type 0
 RefusesContents told names failed refusals.Memory = Unit {0}
 RefusesContents told names failed refusals.Read = FailsToRead told names failed
 RefusesContents told names failed refusals.TooLarge =
@@ -61,7 +61,7 @@ RefusesContents told names failed refusals.TooLarge =
 RefusesContents told names failed _ = ⊥
 
 -- want of memory, or the file gave no content, or one of more bytes than were left
-abbrev pub RefusesFile : Option Contents → List ℕ → ℕ → Type 0 → Refusal → Type 0
+abbrev pub RefusesFile : Option FileContents → List ℕ → ℕ → Type 0 → Refusal → Type 0
 RefusesFile told name left failed refusals.Memory = Unit {0}
 RefusesFile told name left failed refusals.Read = failed
 RefusesFile told name left failed refusals.TooLarge =

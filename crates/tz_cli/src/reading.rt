@@ -29,7 +29,7 @@ fn read_file<F: Files>(
     ensures told { F.told files.new ≡ F.told files.old }
 {
     let content = match files.read(alloc, name, left) {
-        Ok(content) => content,
+        Ok(bytes) => bytes,
         Err(FileError::NoMemory) => return Err(Refusal::Memory),
         Err(FileError::Failed) => return Err(Refusal::Read),
     };
