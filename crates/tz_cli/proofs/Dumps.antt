@@ -82,11 +82,6 @@ part_of_longer had has text later part =
     let short : part.0 < length text = part.1 in
     (part.0, omega arith, rw (take-append-le part.0 text later (omega arith)) part.2)
 
--- nothing is taken of any text
-pub nothing_taken : (had : Option (List ℕ)) (text : List ℕ) → Appends had had (take 0 text)
-nothing_taken None text = refl
-nothing_taken (Some x) text = ap Some (sym (append-nil x))
-
 -- one more zone made ready
 pub next_compiled : (db : Db) (first more : ℕ) (from to : ℤ) (before now : List CompiledZone) → first + more < length db.zones → compiled_texts from to before ≡ dump_text db from to (take more (drop first db.zones)) → ((zone : Zone) → slice_get db.zones (first + more) ≡ Some zone → compiled_texts from to now ≡ compiled_texts from to before ++ zone_text db from to zone) → compiled_texts from to now ≡ dump_text db from to (take (more + 1) (drop first db.zones))
 next_compiled db first more from to before now low is next =

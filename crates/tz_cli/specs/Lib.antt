@@ -1,4 +1,5 @@
 pub mod Conversion
+pub mod NamedText
 pub mod Command
 pub mod Line
 pub mod Text

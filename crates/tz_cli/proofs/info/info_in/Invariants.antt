@@ -1,4 +1,4 @@
-use Rattle.tz_cli.proofs.info.info.Given as goal
+use Rattle.tz_cli.proofs.info.info_in.Given as goal
 
 -- nothing is counted: the ledger is the one that is handed over
 abbrev pub ghosts-info_uncounted : goal.ghosts-info_uncounted
