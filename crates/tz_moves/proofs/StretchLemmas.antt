@@ -1,8 +1,9 @@
 -- The moves of a stretch are told by the ranges that meet it and the second before it.
-use Rattle.std.proofs.Common.{◌≡◌, Bool, true, false, ◌⊎◌, ◌&&◌, inl, inr, ⊎_elim, refl, sym, ap, ◌∙◌, arith, List, [], ◌∷◌, ◌++◌, map, ℤ, pos, ◌+ℤ◌, ◌-ℤ◌, ◌<ℤ◌, ◌≤ℤ◌}
+use Rattle.std.proofs.Common.{◌≡◌, ℕ, zero, suc, ◌+◌, ◌<◌, ◌≤◌, length, drop, get_or, Bool, true, false, ◌⊎◌, ◌&&◌, inl, inr, ⊎_elim, refl, sym, ap, ◌∙◌, arith, List, [], ◌∷◌, ◌++◌, map, ℤ, pos, ◌+ℤ◌, ◌-ℤ◌, ◌<ℤ◌, ◌≤ℤ◌}
 use Rattle.std.specs.Prelude.{filter, int_lt, int_le}
 use Rattle.std.specs.Int.{int_max}
 use Rattle.std.proofs.lemmas.Int.{ints, by_lt_z}
+use Rattle.std.proofs.lemmas.List.{append-nil, drop_more}
 use Rattle.std.proofs.lemmas.Bool.{and_left, and_right, and_from}
 use Rattle.tz_types.specs.declared.range.SysInfo.{SysInfo}
 use Rattle.tz_specs.specs.Expansion.{first_instant, end_of_time}
@@ -15,6 +16,7 @@ use Rattle.tz_expand.specs.Stretch.{IsStretch, meets, ranges_between}
 use Rattle.tz_expand.proofs.Told.{meets-from}
 use Rattle.tz_local.proofs.InfoLemmas.{zone_covers, begun_from}
 use Rattle.tz_moves.specs.Moves.{runs_alike, moved_after, moved_ranges, begins_between}
+use Rattle.tz_moves.specs.declared.moves.Move.{Move}
 use Rattle.tz_moves.specs.Move.{move_to, moves_between}
 use Rattle.tz_moves.proofs.ListLemmas.{filter-pass, filter-fail, filter-none}
 use Rattle.tz_moves.proofs.MoveLemmas.{moved_after-alike, moved_after-differs, In-moved_after}
@@ -120,3 +122,29 @@ moves_told zone since from to stretch is =
 
     since_first : (a f s : ℤ) → f ≤ℤ a → s ≡ int_max a (f -ℤ pos 1) → s ≡ a
     since_first a f s at is = grind (arith, ints)
+
+-- ---- the ranges one after another
+pub pushed : (ranges : List SysInfo) (place : ℕ) (before range : SysInfo) (old new total : List Move) → place + 1 < length ranges → before ≡ get_or ranges place before → range ≡ get_or ranges (place + 1) range → old ++ map move_to (moved_ranges (drop place ranges)) ≡ total → ((later : List SysInfo) → new ++ map move_to (moved_after range later) ≡ old ++ map move_to (moved_after before (range ∷ later))) → new ++ map move_to (moved_ranges (drop (place + 1) ranges)) ≡ total
+pushed ranges place before range old new total within before_is range_is so_far push =
+    let later = drop (place + 1 + 1) ranges in
+    let from_range : drop (place + 1) ranges ≡ range ∷ later =
+    drop_more ranges (place + 1) range within ∙ ap (λ (r : SysInfo). r ∷ later) (sym range_is) in
+    let from_before : drop place ranges ≡ before ∷ range ∷ later =
+    drop_more ranges place before (omega arith) ∙ ap (λ (r : SysInfo). r ∷ drop (place + 1) ranges) (sym before_is) ∙ ap (λ (rs : List SysInfo). before ∷ rs) from_range in
+    ap (λ (rs : List SysInfo). new ++ map move_to (moved_ranges rs)) from_range
+    ∙ push later
+    ∙ sym (ap (λ (rs : List SysInfo). old ++ map move_to (moved_ranges rs)) from_before)
+    ∙ so_far
+
+pub all_pushed : (ranges : List SysInfo) (place : ℕ) (moves total : List Move) → length ranges ≤ place + 1 → moves ++ map move_to (moved_ranges (drop place ranges)) ≡ total → moves ≡ total
+all_pushed ranges place moves total past so_far =
+    sym (append-nil moves)
+    ∙ sym (ap (λ (rs : List SysInfo). moves ++ map move_to rs) (one_left ranges place past))
+    ∙ so_far
+  where
+    one_left : (xs : List SysInfo) (k : ℕ) → length xs ≤ k + 1 → moved_ranges (drop k xs) ≡ []
+    one_left [] zero few = refl
+    one_left [] (suc k) few = refl
+    one_left (x ∷ []) zero few = refl
+    one_left (x ∷ y ∷ xs) zero few = absurd (omega arith)
+    one_left (x ∷ xs) (suc k) few = one_left xs k (omega arith)
