@@ -107,8 +107,8 @@ pub record IsSummed (zone : CompiledZone) (day end seconds : ℤ) : Type 0 where
   pub covers : Covers end end_of_time ahead
   pub sum : seconds ≡ day_seconds day seen
 
-pub first_summed : (zone : CompiledZone) (day : ℤ) (range : SysInfo) → range_at (expansion_of zone) (midnight day -ℤ pos 172_800) ≡ Some range → IsSummed zone day range.end (seconds_in day range)
-first_summed zone day range found =
+pub first_summed : (zone : CompiledZone) (day seconds : ℤ) (range : SysInfo) → range_at (expansion_of zone) (midnight day -ℤ pos 172_800) ≡ Some range → seconds ≡ seconds_in day range → IsSummed zone day range.end seconds
+first_summed zone day seconds range found told =
     let t = midnight day -ℤ pos 172_800 in
     let among = found_among first_instant end_of_time t (expansion_of zone) range (zone_covers zone) found in
     let none : day_seconds day among.before ≡ pos 0 = none_seen day among.before
@@ -124,14 +124,15 @@ first_summed zone day range found =
       split = among.split ∙ sym (append_assoc among.before (range ∷ []) among.later);
       covered = Covers-append first_instant range.begin range.end among.before (range ∷ []) among.covered (refl, among.takes, refl);
       covers = among.covers;
-      sum = one_more (seconds_in day range) (day_seconds day among.before) none ∙ sym (day_seconds-append day among.before (range ∷ []));
+      sum = told
+          ∙ one_more (seconds_in day range) (day_seconds day among.before) none ∙ sym (day_seconds-append day among.before (range ∷ []));
     }
   where
     one_more : (s before : ℤ) → before ≡ pos 0 → s ≡ (before +ℤ (s +ℤ pos 0))
     one_more s before none = omega (arith, ints)
 
-pub next_summed : (zone : CompiledZone) (day end seconds : ℤ) (range : SysInfo) → IsSummed zone day end seconds → range_at (expansion_of zone) end ≡ Some range → IsSummed zone day range.end (seconds +ℤ seconds_in day range)
-next_summed zone day end seconds range walk found =
+pub next_summed : (zone : CompiledZone) (day end seconds more : ℤ) (range : SysInfo) → IsSummed zone day end seconds → range_at (expansion_of zone) end ≡ Some range → more ≡ seconds_in day range → IsSummed zone day range.end (seconds +ℤ more)
+next_summed zone day end seconds more range walk found told =
     let whole : range_at (walk.seen ++ walk.ahead) end ≡ Some range = rw walk.split at found in
     let ahead = sym (range_at-past first_instant end end walk.seen walk.ahead walk.covered (omega (arith, ints))) ∙ whole in
     let head = next_head end_of_time end walk.ahead range walk.covers ahead in
@@ -143,11 +144,11 @@ next_summed zone day end seconds range walk found =
       split = walk.split ∙ ap (λ (rs : List SysInfo). walk.seen ++ rs) head.1 ∙ sym (append_assoc walk.seen (range ∷ []) head.0);
       covered = Covers-append first_instant range.begin range.end walk.seen (range ∷ []) covered (refl, head.3, refl);
       covers = head.4;
-      sum = one_more seconds (day_seconds day walk.seen) (seconds_in day range) walk.sum ∙ sym (day_seconds-append day walk.seen (range ∷ []));
+      sum = one_more seconds (day_seconds day walk.seen) more (seconds_in day range) walk.sum told ∙ sym (day_seconds-append day walk.seen (range ∷ []));
     }
   where
-    one_more : (seconds before s : ℤ) → seconds ≡ before → (seconds +ℤ s) ≡ (before +ℤ (s +ℤ pos 0))
-    one_more seconds before s is = omega (arith, ints)
+    one_more : (seconds before more s : ℤ) → seconds ≡ before → more ≡ s → (seconds +ℤ more) ≡ (before +ℤ (s +ℤ pos 0))
+    one_more seconds before more s is told = omega (arith, ints)
 
 pub all_summed : (zone : CompiledZone) (day end seconds : ℤ) → IsSummed zone day end seconds → (midnight (day +ℤ pos 1) +ℤ pos 172_800) ≤ℤ end → seconds ≡ day_seconds day (expansion_of zone)
 all_summed zone day end seconds walk past =
@@ -179,3 +180,6 @@ few_summed zone day end seconds walk =
   where
     within : (s sum reach low high : ℤ) → s ≡ sum → pos 0 ≤ℤ sum → sum ≤ℤ reach → reach ≤ℤ ((high -ℤ low) +ℤ pos 345_600) → high ≡ (low +ℤ pos 86_400) → (pos 0 ≤ℤ s) × (s ≤ℤ pos 432_000)
     within s sum reach low high is some few all long = (omega (arith, ints), omega (arith, ints))
+
+pub end_begun : (zone : CompiledZone) (day end seconds : ℤ) → IsSummed zone day end seconds → first_instant ≤ℤ end
+end_begun zone day end seconds walk = covers_ordered first_instant end walk.seen walk.covered
