@@ -1,8 +1,8 @@
 -- The seconds of a day, range by range.
-use Rattle.std.proofs.Common.{◌≡◌, ℕ, ◌⊎◌, inl, inr, ⊎_elim, refl, sym, ap, ◌∙◌, arith, List, [], ◌∷◌, ◌++◌, append_assoc, Some, ℤ, pos, ◌+ℤ◌, ◌-ℤ◌, ◌*ℤ◌, ◌<ℤ◌, ◌≤ℤ◌}
+use Rattle.std.proofs.Common.{◌≡◌, inl, inr, refl, sym, ap, ◌∙◌, arith, List, [], ◌∷◌, ◌++◌, append_assoc, Some, ℤ, pos, ◌+ℤ◌, ◌-ℤ◌, ◌≤ℤ◌}
 use Rattle.std.specs.Int.{int_max, int_min}
-use Rattle.std.proofs.lemmas.Int.{ints, clamps, by_lt_z}
-use Rattle.jiff_core.specs.Calendar.{IsWithin, IsBetween}
+use Rattle.std.proofs.lemmas.Int.{ints, clamps}
+use Rattle.jiff_core.specs.Calendar.{IsWithin}
 use Rattle.jiff_core.proofs.SignedLemmas.{signed_arith}
 use Rattle.tz_types.specs.declared.range.SysInfo.{SysInfo}
 use Rattle.tz_specs.specs.Expansion.{first_instant, end_of_time, range_at}
@@ -11,9 +11,9 @@ use Rattle.tz_specs.proofs.ListLemmas.{In, In-append_left, In-append_right}
 use Rattle.tz_specs.proofs.CoverLemmas.{Covers-append, covers_ordered}
 use Rattle.tz_expand.specs.declared.compiled_zone.CompiledZone.{CompiledZone}
 use Rattle.tz_expand.specs.Zone.{expansion_of}
-use Rattle.tz_local.proofs.InfoLemmas.{zone_covers, IsAmong, found_among, next_head, range_at-past, begun_from, ended_by}
+use Rattle.tz_local.proofs.InfoLemmas.{zone_covers, found_among, next_head, range_at-past, begun_from, ended_by}
 use Rattle.tz_local.proofs.OffsetLemmas.{offset_near}
-use Rattle.tz_moves.specs.Day.{midnight, seconds_in, day_seconds, IsDay}
+use Rattle.tz_moves.specs.Day.{midnight, seconds_in, day_seconds}
 
 -- ---- what two stretches share
 abbrev pub shared : ℤ → ℤ → ℤ → ℤ → ℤ

@@ -1,25 +1,24 @@
 -- The walks from range to range, on and back.
-use Rattle.std.proofs.Common.{◌≡◌, ℕ, zero, suc, ◌+◌, ◌*◌, ◌≤◌, Bool, true, false, ◌⊎◌, ◌&&◌, inl, inr, ⊎_elim, refl, sym, ap, subst, ◌∙◌, arith, List, [], ◌∷◌, ◌++◌, append_assoc, length, Some, ℤ, pos, ◌+ℤ◌, ◌-ℤ◌, ◌<ℤ◌, ◌≤ℤ◌}
+use Rattle.std.proofs.Common.{◌≡◌, ℕ, suc, ◌+◌, ◌*◌, ◌≤◌, Bool, true, false, inl, ⊎_elim, refl, sym, ap, subst, ◌∙◌, arith, List, [], ◌∷◌, ◌++◌, append_assoc, length, Some, ℤ, pos, ◌+ℤ◌, ◌-ℤ◌, ◌<ℤ◌, ◌≤ℤ◌}
 use Rattle.std.specs.Prelude.{filter, int_lt}
-use Rattle.std.specs.List.{Contains}
 use Rattle.std.specs.Int.{int_gap}
 use Rattle.std.proofs.lemmas.Int.{ints, by_lt_z}
 use Rattle.std.proofs.lemmas.Bool.{cond-true, cond-false, and_left, and_right, and_from}
 use Rattle.std.proofs.lemmas.List.{append-nil, length-append}
 use Rattle.std.proofs.lemmas.List.Elements.{filter-append}
-use Rattle.std.proofs.lemmas.Option.{none-some, same_Some}
+use Rattle.std.proofs.lemmas.Option.{same_Some}
 use Rattle.tz_types.specs.declared.range.SysInfo.{SysInfo}
-use Rattle.tz_specs.specs.Expansion.{IsInstant, first_instant, end_of_time, holds_instant, range_at}
+use Rattle.tz_specs.specs.Expansion.{first_instant, end_of_time, holds_instant, range_at}
 use Rattle.tz_specs.specs.Cover.{Covers}
 use Rattle.tz_specs.proofs.Tests.{by_test, lt-int_lt, le-int_lt}
-use Rattle.tz_specs.proofs.ListLemmas.{In, In-from_Contains, Contains-from_In, In-append_left, In-append_right, In-append_cases}
-use Rattle.tz_specs.proofs.CoverLemmas.{Covers-append, covers_ordered, holds-true, true-holds, after-holds}
+use Rattle.tz_specs.proofs.ListLemmas.{In, In-from_Contains, Contains-from_In, In-append_right, In-append_cases}
+use Rattle.tz_specs.proofs.CoverLemmas.{Covers-append, covers_ordered, true-holds, after-holds}
 use Rattle.tz_expand.specs.declared.compiled_zone.CompiledZone.{CompiledZone}
 use Rattle.tz_expand.specs.Zone.{expansion_of}
 use Rattle.tz_expand.specs.Stretch.{meets, ranges_between}
-use Rattle.tz_local.proofs.InfoLemmas.{zone_covers, IsAmong, found_among, next_head, range_at-past, begun_from, ended_by}
+use Rattle.tz_local.proofs.InfoLemmas.{zone_covers, found_among, next_head, range_at-past, begun_from, ended_by}
 use Rattle.tz_moves.specs.Moves.{runs_alike, moved_after, moved_ranges, IsMove, IsNextMove, IsPreviousMove, IsInTime}
-use Rattle.tz_moves.proofs.ListLemmas.{filter-pass, filter-fail, filter-none, filter-same}
+use Rattle.tz_moves.proofs.ListLemmas.{filter-pass, filter-none, filter-same}
 use Rattle.tz_moves.proofs.MoveLemmas.{moved_after-alike, moved_after-differs, moved-append, In-moved_after, In-moved, begun_before, ends_after_begin, none_covered}
 
 pub range_in_time : (zone : CompiledZone) (t : ℤ) (range : SysInfo) → range_at (expansion_of zone) t ≡ Some range → IsInTime range

@@ -1,15 +1,12 @@
-use Rattle.std.proofs.Common.{◌≡◌, ◌∙◌, refl, sym, ap, rules, arith, FitsSigned, to_z, of_z, ℤ, pos, neg_ℤ, ◌+ℤ◌, ◌-ℤ◌, ◌*ℤ◌, ◌≤ℤ◌, ◌<ℤ◌}
+use Rattle.std.proofs.Common.{rules, arith, FitsSigned, to_z, ℤ, pos, neg_ℤ, ◌+ℤ◌, ◌-ℤ◌, ◌*ℤ◌, ◌≤ℤ◌, ◌<ℤ◌}
 use Rattle.std.specs.Int.{w64}
 use Rattle.std.proofs.lemmas.Int.{ints, to_z-of_z}
-use Rattle.jiff_core.specs.Calendar.{IsBetween}
 use Rattle.jiff_core.proofs.SignedLemmas.{signed_arith}
-use Rattle.tz_specs.specs.Expansion.{first_instant, end_of_time, range_at}
+use Rattle.tz_specs.specs.Expansion.{first_instant}
 use Rattle.tz_specs.proofs.Tests.{int_lt-true, int_lt-false}
-use Rattle.tz_expand.specs.Zone.{expansion_of}
 use Rattle.tz_local.proofs.InfoLemmas.{walks_on}
-use Rattle.tz_moves.specs.Day.{IsDay, midnight, seconds_in, day_seconds}
+use Rattle.tz_moves.specs.Day.{IsDay, midnight}
 use Rattle.tz_moves.proofs.DayLemmas.{IsSummed, first_summed, next_summed, all_summed, few_summed, end_begun}
-use Rattle.tz_moves.proofs.day.seconds_among.Given as given
 use Rattle.tz_moves.proofs.day.seconds_among.Goals as goal
 
 fits_small : (z : ℤ) → neg_ℤ (pos 1_000_000_000_000) ≤ℤ z → z ≤ℤ pos 1_000_000_000_000 → FitsSigned w64 z

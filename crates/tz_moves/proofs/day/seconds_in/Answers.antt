@@ -1,13 +1,10 @@
-use Rattle.std.proofs.Common.{◌≡◌, ◌∙◌, sym, ap, rules, arith, refl, to_z, of_z, FitsSigned, ℤ, pos, neg_ℤ, ◌+ℤ◌, ◌-ℤ◌, ◌*ℤ◌, ◌≤ℤ◌, ◌<ℤ◌}
+use Rattle.std.proofs.Common.{◌≡◌, rules, arith, refl, to_z, of_z, FitsSigned, ℤ, pos, neg_ℤ, ◌+ℤ◌, ◌-ℤ◌, ◌*ℤ◌, ◌≤ℤ◌}
 use Rattle.std.specs.Int.{w64, int_max, int_min}
 use Rattle.std.proofs.lemmas.Int.{ints, to_z-of_z, clamps}
-use Rattle.jiff_core.specs.Calendar.{IsWithin, IsBetween}
+use Rattle.jiff_core.specs.Calendar.{IsBetween}
 use Rattle.jiff_core.proofs.SignedLemmas.{signed_arith}
-use Rattle.tz_types.specs.declared.range.SysInfo.{SysInfo}
-use Rattle.tz_moves.specs.Day.{IsDay, midnight, seconds_in}
-use Rattle.tz_moves.specs.Moves.{IsInTime}
-use Rattle.tz_moves.proofs.DayLemmas.{shared, shared_low, shared_high, day_long}
-use Rattle.tz_moves.proofs.day.seconds_in.Given as given
+use Rattle.tz_moves.specs.Day.{midnight, seconds_in}
+use Rattle.tz_moves.proofs.DayLemmas.{shared_low, shared_high, day_long}
 use Rattle.tz_moves.proofs.day.seconds_in.Goals as goal
 
 fits_small : (z : ℤ) → neg_ℤ (pos 1_000_000_000_000) ≤ℤ z → z ≤ℤ pos 1_000_000_000_000 → FitsSigned w64 z

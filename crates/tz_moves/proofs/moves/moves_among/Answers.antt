@@ -1,6 +1,5 @@
-use Rattle.std.proofs.Common.{◌≡◌, ◌+◌, ◌-◌, ◌<◌, arith, length, get_or, map, refl, sym, ap, ◌++◌, ◌∙◌, drop, List, ◌∷◌, rules}
-use Rattle.tz_types.specs.declared.range.SysInfo.{SysInfo}
-use Rattle.tz_moves.specs.Moves.{moved_after, moved_ranges}
+use Rattle.std.proofs.Common.{◌≡◌, ◌+◌, ◌-◌, arith, map}
+use Rattle.tz_moves.specs.Moves.{moved_ranges}
 use Rattle.tz_moves.specs.Move.{move_to}
 use Rattle.tz_moves.proofs.StretchLemmas.{pushed, all_pushed}
 use Rattle.tz_moves.proofs.moves.moves_among.Goals as goal

@@ -1,10 +1,9 @@
-use Rattle.std.proofs.Common.{◌≡◌, ap, sym, subst, ◌∙◌, rules, map, FitsSigned, ℤ, ◌-ℤ◌, pos, List, ◌≤ℤ◌, arith}
+use Rattle.std.proofs.Common.{◌≡◌, ap, subst, ◌∙◌, rules, map, FitsSigned, ℤ, ◌-ℤ◌, pos, List, ◌≤ℤ◌}
 use Rattle.std.specs.Prelude.{IfOk}
-use Rattle.std.specs.Int.{w64, int_max}
-use Rattle.std.proofs.lemmas.Int.{to_z-of_z, ints}
+use Rattle.std.specs.Int.{w64}
+use Rattle.std.proofs.lemmas.Int.{to_z-of_z}
 use Rattle.tz_types.specs.declared.range.SysInfo.{SysInfo}
 use Rattle.tz_specs.specs.Expansion.{first_instant}
-use Rattle.tz_expand.specs.Stretch.{IsStretch, ranges_between}
 use Rattle.tz_moves.specs.declared.moves.Move.{Move}
 use Rattle.tz_moves.specs.Moves.{moved_ranges}
 use Rattle.tz_moves.specs.Move.{move_to, moves_between}

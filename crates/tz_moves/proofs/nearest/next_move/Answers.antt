@@ -1,12 +1,11 @@
-use Rattle.std.proofs.Common.{◌≡◌, ◌+◌, ◌*◌, ◌≤ℤ◌, rules, arith, true, false, ℕ, FitsSigned, refl}
+use Rattle.std.proofs.Common.{◌≡◌, ◌+◌, ◌*◌, ◌≤ℤ◌, rules, arith, true, false, FitsSigned, refl}
 use Rattle.std.specs.Int.{w64}
 use Rattle.std.proofs.lemmas.Int.{ints, to_z-of_z}
-use Rattle.std.proofs.lemmas.Bool.{not-true, not-false}
 use Rattle.tz_specs.specs.Expansion.{end_of_time}
 use Rattle.tz_specs.specs.RulesFollowed.{most_rules_followed}
 use Rattle.tz_expand.specs.Compiled.{periods}
 use Rattle.tz_moves.specs.Moves.{runs_alike}
-use Rattle.tz_moves.proofs.WalkLemmas.{IsOnward, IsFoundOnward, IsDoneOnward, begin_onward, step_onward, found_onward, done_onward, next_not_none}
+use Rattle.tz_moves.proofs.WalkLemmas.{IsFoundOnward, begin_onward, step_onward, found_onward, done_onward, next_not_none}
 use Rattle.tz_moves.proofs.nearest.next_move.Given as given
 use Rattle.tz_moves.proofs.nearest.next_move.Goals as goal
 

@@ -1,12 +1,11 @@
-use Rattle.std.proofs.Common.{ℤ, ◌≡◌, ◌+◌, ◌*◌, ◌≤ℤ◌, ◌<ℤ◌, ◌-ℤ◌, pos, rules, arith, true, false, ℕ, FitsSigned, refl}
+use Rattle.std.proofs.Common.{ℤ, ◌≡◌, ◌+◌, ◌*◌, ◌≤ℤ◌, ◌<ℤ◌, ◌-ℤ◌, pos, rules, arith, true, false, FitsSigned, refl}
 use Rattle.std.specs.Int.{w64}
 use Rattle.std.proofs.lemmas.Int.{ints, to_z-of_z}
-use Rattle.std.proofs.lemmas.Bool.{not-true, not-false}
 use Rattle.tz_specs.specs.Expansion.{first_instant}
 use Rattle.tz_specs.specs.RulesFollowed.{most_rules_followed}
 use Rattle.tz_expand.specs.Compiled.{periods}
 use Rattle.tz_moves.specs.Moves.{runs_alike}
-use Rattle.tz_moves.proofs.WalkLemmas.{IsBackward, IsFoundBackward, IsDoneBackward, begin_backward, step_backward, found_backward, done_backward, previous_not_none, walks_back}
+use Rattle.tz_moves.proofs.WalkLemmas.{IsFoundBackward, begin_backward, step_backward, found_backward, done_backward, previous_not_none, walks_back}
 use Rattle.tz_moves.proofs.nearest.previous_move.Given as given
 use Rattle.tz_moves.proofs.nearest.previous_move.Goals as goal
 
