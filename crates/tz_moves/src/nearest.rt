@@ -19,13 +19,13 @@ pub fn next_move<L: Ledger>(zone: &CompiledZone, t: i64, steps: &mut Steps<L>) -
     ensures none { (result ≡ None) ↔ ((other : ℤ) → IsMove zone.now other → other ≤ℤ t) }
     ensures steps { let rules = most_rules_followed (periods zone.now.lines) in steps.new ≤ steps.old + length (ranges_between zone.now t (end_with result)) * (16 * (rules * (rules + 2))) }
 {
-    let mut range = range_at(zone, t, steps);
-    while range.end < END_OF_TIME {
-        let next = range_at(zone, range.end, steps);
-        if !runs_alike(&range, &next) {
-            return Some(next.begin);
+    let mut before = range_at(zone, t, steps);
+    while before.end < END_OF_TIME {
+        let range = range_at(zone, before.end, steps);
+        if !runs_alike(&before, &range) {
+            return Some(range.begin);
         }
-        range = next;
+        before = range;
     }
     None
 }

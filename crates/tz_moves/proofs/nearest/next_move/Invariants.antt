@@ -7,8 +7,8 @@ use Rattle.tz_moves.proofs.WalkLemmas.{IsOnward}
 use Rattle.tz_moves.proofs.nearest.next_move.Given as goal
 
 -- how far the walk has come
-abbrev pub invariant-loop-range : goal.invariant-loop-range
-invariant-loop-range g l = IsOnward l.zone l.t l.range l.fn.steps l.steps (16 * (most_rules_followed (periods l.zone.lines) * (most_rules_followed (periods l.zone.lines) + 2)))
+abbrev pub invariant-loop-before : goal.invariant-loop-before
+invariant-loop-before g l = IsOnward l.zone l.t l.before l.fn.steps l.steps (16 * (most_rules_followed (periods l.zone.lines) * (most_rules_followed (periods l.zone.lines) + 2)))
 
-abbrev pub decreases-loop-range : goal.decreases-loop-range
-decreases-loop-range g l = int_gap l.range.end end_of_time
+abbrev pub decreases-loop-before : goal.decreases-loop-before
+decreases-loop-before g l = int_gap l.before.end end_of_time
