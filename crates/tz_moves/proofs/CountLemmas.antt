@@ -13,48 +13,48 @@ use Rattle.tz_specs.proofs.CoverLemmas.{covers_ordered, true-holds, after-holds}
 use Rattle.tz_expand.specs.declared.compiled_zone.CompiledZone.{CompiledZone}
 use Rattle.tz_expand.specs.Zone.{expansion_of}
 use Rattle.tz_local.proofs.InfoLemmas.{zone_covers}
-use Rattle.tz_moves.specs.Day.{midnight, seconds_in, day_seconds, instants_from, shows_day}
+use Rattle.tz_moves.specs.Day.{midnight, seconds_in, day_seconds, seconds_from, shows_day}
 use Rattle.tz_moves.proofs.DayLemmas.{shared}
 
 -- ---- instants one after another
-instants-more : (t : ℤ) (count : ℕ) → instants_from t (suc count) ≡ t ∷ instants_from (t +ℤ pos 1) count
-unfolding instants_from
+instants-more : (t : ℤ) (count : ℕ) → seconds_from t (suc count) ≡ t ∷ seconds_from (t +ℤ pos 1) count
+unfolding seconds_from
 instants-more t count = refl
 
-instants-none : (t : ℤ) → instants_from t zero ≡ []
-unfolding instants_from
+instants-none : (t : ℤ) → seconds_from t zero ≡ []
+unfolding seconds_from
 instants-none t = refl
 
-instants-append : (t : ℤ) (first second : ℕ) → instants_from t (first + second) ≡ instants_from t first ++ instants_from (t +ℤ pos first) second
+instants-append : (t : ℤ) (first second : ℕ) → seconds_from t (first + second) ≡ seconds_from t first ++ seconds_from (t +ℤ pos first) second
 instants-append t zero second =
     let count : zero + second ≡ second = omega arith in
     let start : t ≡ (t +ℤ pos zero) = omega (arith, ints) in
-    ap (instants_from t) count
-    ∙ ap (λ (u : ℤ). instants_from u second) start
-    ∙ ap (λ (is : List ℤ). is ++ instants_from (t +ℤ pos zero) second) (sym (instants-none t))
+    ap (seconds_from t) count
+    ∙ ap (λ (u : ℤ). seconds_from u second) start
+    ∙ ap (λ (is : List ℤ). is ++ seconds_from (t +ℤ pos zero) second) (sym (instants-none t))
 instants-append t (suc first) second =
     let count : suc first + second ≡ suc (first + second) = omega arith in
     let start : ((t +ℤ pos 1) +ℤ pos first) ≡ (t +ℤ pos (suc first)) = omega (arith, ints) in
-    ap (instants_from t) count
+    ap (seconds_from t) count
     ∙ instants-more t (first + second)
     ∙ ap (λ (is : List ℤ). t ∷ is) (instants-append (t +ℤ pos 1) first second)
-    ∙ ap (λ (u : ℤ). (t ∷ instants_from (t +ℤ pos 1) first) ++ instants_from u second) start
-    ∙ ap (λ (is : List ℤ). is ++ instants_from (t +ℤ pos (suc first)) second) (sym (instants-more t first))
+    ∙ ap (λ (u : ℤ). (t ∷ seconds_from (t +ℤ pos 1) first) ++ seconds_from u second) start
+    ∙ ap (λ (is : List ℤ). is ++ seconds_from (t +ℤ pos (suc first)) second) (sym (instants-more t first))
 
-count-more : (test : ℤ → Bool) (t : ℤ) (count : ℕ) (one : ℕ) → one ≡ cond (test t) 1 0 → count_by test (instants_from t (suc count)) ≡ one + count_by test (instants_from (t +ℤ pos 1) count)
+count-more : (test : ℤ → Bool) (t : ℤ) (count : ℕ) (one : ℕ) → one ≡ cond (test t) 1 0 → count_by test (seconds_from t (suc count)) ≡ one + count_by test (seconds_from (t +ℤ pos 1) count)
 count-more test t count one is =
     ap (count_by test) (instants-more t count)
-    ∙ sum_by-cons (λ u. cond (test u) 1 0) t (instants_from (t +ℤ pos 1) count)
-    ∙ ap (λ (n : ℕ). n + count_by test (instants_from (t +ℤ pos 1) count)) (sym is)
+    ∙ sum_by-cons (λ u. cond (test u) 1 0) t (seconds_from (t +ℤ pos 1) count)
+    ∙ ap (λ (n : ℕ). n + count_by test (seconds_from (t +ℤ pos 1) count)) (sym is)
 
 -- two tests agree on the instants from one up to but excluding another
-count-same : (test other : ℤ → Bool) (t : ℤ) (count : ℕ) → ((u : ℤ) → t ≤ℤ u → u <ℤ (t +ℤ pos count) → test u ≡ other u) → count_by test (instants_from t count) ≡ count_by other (instants_from t count)
+count-same : (test other : ℤ → Bool) (t : ℤ) (count : ℕ) → ((u : ℤ) → t ≤ℤ u → u <ℤ (t +ℤ pos count) → test u ≡ other u) → count_by test (seconds_from t count) ≡ count_by other (seconds_from t count)
 count-same test other t zero same = ap (count_by test) (instants-none t) ∙ sym (ap (count_by other) (instants-none t))
 count-same test other t (suc count) same =
     let here : test t ≡ other t = same t (omega (arith, ints)) (omega (arith, ints)) in
     let rest = count-same test other (t +ℤ pos 1) count (λ u low high. same u (omega (arith, ints)) (omega (arith, ints))) in
     count-more test t count (cond (test t) 1 0) refl
-    ∙ ap (λ (b : Bool). cond b 1 0 + count_by test (instants_from (t +ℤ pos 1) count)) here
+    ∙ ap (λ (b : Bool). cond b 1 0 + count_by test (seconds_from (t +ℤ pos 1) count)) here
     ∙ ap (λ (n : ℕ). cond (other t) 1 0 + n) rest
     ∙ sym (count-more other t count (cond (other t) 1 0) refl)
 
@@ -87,7 +87,7 @@ in_day-late : (offset low high t : ℤ) → low ≤ℤ (t +ℤ offset) → high 
 unfolding in_day
 in_day-late offset low high t after late = rw (le-int_le low (t +ℤ offset) after, le-int_lt (t +ℤ offset) high late) refl
 
-counted : (offset low high t : ℤ) (count : ℕ) → shared (t +ℤ offset) ((t +ℤ pos count) +ℤ offset) low high ≡ pos (count_by (in_day offset low high) (instants_from t count))
+counted : (offset low high t : ℤ) (count : ℕ) → shared (t +ℤ offset) ((t +ℤ pos count) +ℤ offset) low high ≡ pos (count_by (in_day offset low high) (seconds_from t count))
 counted offset low high t zero =
     shared_none (t +ℤ offset) ((t +ℤ pos zero) +ℤ offset) low high (omega (arith, ints))
     ∙ sym (ap (λ (is : List ℤ). pos (count_by (in_day offset low high) is)) (instants-none t))
@@ -96,10 +96,10 @@ counted offset low high t (suc count) =
     let last : ((t +ℤ pos (suc count)) +ℤ offset) ≡ (((t +ℤ pos 1) +ℤ pos count) +ℤ offset) = omega (arith, ints) in
     let next : ((t +ℤ offset) +ℤ pos 1) ≡ ((t +ℤ pos 1) +ℤ offset) = omega (arith, ints) in
     let rest = counted offset low high (t +ℤ pos 1) count in
-    let moved : shared ((t +ℤ offset) +ℤ pos 1) ((t +ℤ pos (suc count)) +ℤ offset) low high ≡ pos (count_by test (instants_from (t +ℤ pos 1) count)) =
+    let moved : shared ((t +ℤ offset) +ℤ pos 1) ((t +ℤ pos (suc count)) +ℤ offset) low high ≡ pos (count_by test (seconds_from (t +ℤ pos 1) count)) =
     ap (λ (b : ℤ). shared b ((t +ℤ pos (suc count)) +ℤ offset) low high) next ∙ ap (λ (e : ℤ). shared ((t +ℤ pos 1) +ℤ offset) e low high) last ∙ rest in
-    let skipped : test t ≡ false → pos (count_by test (instants_from (t +ℤ pos 1) count)) ≡ pos (count_by test (instants_from t (suc count))) =
-    λ out. ap pos (sym (count-more test t count 0 (sym (cond-false (test t) 1 0 out)) ∙ none_more (count_by test (instants_from (t +ℤ pos 1) count)))) in
+    let skipped : test t ≡ false → pos (count_by test (seconds_from (t +ℤ pos 1) count)) ≡ pos (count_by test (seconds_from t (suc count))) =
+    λ out. ap pos (sym (count-more test t count 0 (sym (cond-false (test t) 1 0 out)) ∙ none_more (count_by test (seconds_from (t +ℤ pos 1) count)))) in
     by_lt_z (t +ℤ offset) low
     (λ early. step_early (t +ℤ offset) ((t +ℤ pos (suc count)) +ℤ offset) low high early ∙ moved ∙ skipped (in_day-early offset low high t early))
     (λ after.
@@ -133,10 +133,10 @@ natural : (z : ℤ) → pos 0 ≤ℤ z → (n : ℕ) × (pos n ≡ z)
 natural (pos n) low = (n, refl)
 natural (negsuc n) low = absurd (omega (arith, ints))
 
-pub day_counted : (day a b : ℤ) (ranges : List SysInfo) (all : ℕ) → Covers a b ranges → pos all ≡ (b -ℤ a) → day_seconds day ranges ≡ pos (count_by (shows_day day ranges) (instants_from a all))
+pub day_counted : (day a b : ℤ) (ranges : List SysInfo) (all : ℕ) → Covers a b ranges → pos all ≡ (b -ℤ a) → day_seconds day ranges ≡ pos (count_by (shows_day day ranges) (seconds_from a all))
 day_counted day a b [] all covers is =
     let none : all ≡ zero = omega (arith, ints) in
-    sym (ap (λ (n : ℕ). pos (count_by (shows_day day []) (instants_from a n))) none ∙ ap (λ (ts : List ℤ). pos (count_by (shows_day day []) ts)) (instants-none a))
+    sym (ap (λ (n : ℕ). pos (count_by (shows_day day []) (seconds_from a n))) none ∙ ap (λ (ts : List ℤ). pos (count_by (shows_day day []) ts)) (instants-none a))
 day_counted day a b (range ∷ later) all covers is =
     let begins : range.begin ≡ a = covers.0 in
     let takes : range.begin <ℤ range.end = covers.1 in
@@ -150,25 +150,25 @@ day_counted day a b (range ∷ later) all covers is =
     let low = midnight day in
     let high = midnight (day +ℤ pos 1) in
     let test = shows_day day (range ∷ later) in
-    let head : count_by test (instants_from a first) ≡ count_by (in_day range.offset low high) (instants_from a first) =
+    let head : count_by test (seconds_from a first) ≡ count_by (in_day range.offset low high) (seconds_from a first) =
     count-same test (in_day range.offset low high) a first (λ u after before. shown_in_head day u range later (omega (arith, ints)) (omega (arith, ints, ends))) in
-    let tail : count_by test (instants_from range.end second) ≡ count_by (shows_day day later) (instants_from range.end second) =
+    let tail : count_by test (seconds_from range.end second) ≡ count_by (shows_day day later) (seconds_from range.end second) =
     count-same test (shows_day day later) range.end second (λ u after before. shown_in_tail day u range later after) in
-    let in_head : seconds_in day range ≡ pos (count_by (in_day range.offset low high) (instants_from a first)) =
+    let in_head : seconds_in day range ≡ pos (count_by (in_day range.offset low high) (seconds_from a first)) =
     ap (λ (t : ℤ). shared (t +ℤ range.offset) (range.end +ℤ range.offset) low high) begins
     ∙ ap (λ (t : ℤ). shared (a +ℤ range.offset) (t +ℤ range.offset) low high) (sym ends)
     ∙ counted range.offset low high a first in
     let in_tail = day_counted day range.end b later second covers.2 there.1 in
-    let split : count_by test (instants_from a all) ≡ count_by test (instants_from a first) + count_by test (instants_from range.end second) =
-    ap (λ (n : ℕ). count_by test (instants_from a n)) sum
+    let split : count_by test (seconds_from a all) ≡ count_by test (seconds_from a first) + count_by test (seconds_from range.end second) =
+    ap (λ (n : ℕ). count_by test (seconds_from a n)) sum
     ∙ ap (count_by test) (instants-append a first second)
-    ∙ ap (λ (t : ℤ). count_by test (instants_from a first ++ instants_from t second)) ends
-    ∙ sum_by-append (λ t. cond (test t) 1 0) (instants_from a first) (instants_from range.end second) in
-    added (seconds_in day range) (day_seconds day later) (count_by (in_day range.offset low high) (instants_from a first)) (count_by (shows_day day later) (instants_from range.end second)) (count_by test (instants_from a all)) in_head in_tail (split ∙ ap (λ (n : ℕ). n + count_by test (instants_from range.end second)) head ∙ ap (λ (n : ℕ). count_by (in_day range.offset low high) (instants_from a first) + n) tail)
+    ∙ ap (λ (t : ℤ). count_by test (seconds_from a first ++ seconds_from t second)) ends
+    ∙ sum_by-append (λ t. cond (test t) 1 0) (seconds_from a first) (seconds_from range.end second) in
+    added (seconds_in day range) (day_seconds day later) (count_by (in_day range.offset low high) (seconds_from a first)) (count_by (shows_day day later) (seconds_from range.end second)) (count_by test (seconds_from a all)) in_head in_tail (split ∙ ap (λ (n : ℕ). n + count_by test (seconds_from range.end second)) head ∙ ap (λ (n : ℕ). count_by (in_day range.offset low high) (seconds_from a first) + n) tail)
   where
     added : (s rest : ℤ) (m n total : ℕ) → s ≡ pos m → rest ≡ pos n → total ≡ m + n → (s +ℤ rest) ≡ pos total
     added s rest m n total is_m is_n is = omega (arith, ints)
 
-pub zone_day_counted : (zone : CompiledZone) (day : ℤ) (all : ℕ) → pos all ≡ (end_of_time -ℤ first_instant) → day_seconds day (expansion_of zone) ≡ pos (count_by (shows_day day (expansion_of zone)) (instants_from first_instant all))
+pub zone_day_counted : (zone : CompiledZone) (day : ℤ) (all : ℕ) → pos all ≡ (end_of_time -ℤ first_instant) → day_seconds day (expansion_of zone) ≡ pos (count_by (shows_day day (expansion_of zone)) (seconds_from first_instant all))
 zone_day_counted zone day all is =
     day_counted day first_instant end_of_time (expansion_of zone) all (zone_covers zone) is

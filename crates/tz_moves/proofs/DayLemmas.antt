@@ -1,6 +1,6 @@
 -- The seconds of a day, range by range.
-use Rattle.std.proofs.Common.{◌≡◌, inl, inr, refl, sym, ap, ◌∙◌, arith, List, [], ◌∷◌, ◌++◌, append_assoc, Some, ℤ, pos, ◌+ℤ◌, ◌-ℤ◌, ◌≤ℤ◌}
-use Rattle.std.specs.Int.{int_max, int_min}
+use Rattle.std.proofs.Common.{rules, FitsSigned, neg_ℤ, ◌≡◌, inl, inr, refl, sym, ap, ◌∙◌, arith, List, [], ◌∷◌, ◌++◌, append_assoc, Some, ℤ, pos, ◌+ℤ◌, ◌-ℤ◌, ◌≤ℤ◌}
+use Rattle.std.specs.Int.{w64, int_max, int_min}
 use Rattle.std.proofs.lemmas.Int.{ints, clamps}
 use Rattle.jiff_core.specs.Calendar.{IsWithin}
 use Rattle.jiff_core.proofs.SignedLemmas.{signed_arith}
@@ -42,6 +42,10 @@ shared_reached begin end offset low high ordered takes near = omega (arith, ints
 reached_all : (low high a b : ℤ) → low ≤ℤ high → (reached low high b -ℤ reached low high a) ≤ℤ ((high -ℤ low) +ℤ pos 345_600)
 unfolding reached
 reached_all low high a b ordered = omega (arith, ints, clamps)
+
+-- amounts of this size don't overflow
+pub fits_small : (z : ℤ) → neg_ℤ (pos 1_000_000_000_000) ≤ℤ z → z ≤ℤ pos 1_000_000_000_000 → FitsSigned w64 z
+fits_small z low high = search rules
 
 pub day_long : (day : ℤ) → midnight (day +ℤ pos 1) ≡ (midnight day +ℤ pos 86_400)
 day_long day = omega (arith, ints, signed_arith)

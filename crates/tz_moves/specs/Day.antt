@@ -25,10 +25,10 @@ abbrev pub IsDay : ℤ → Type 0
 IsDay day =
     ((first_instant +ℤ pos 172_800) ≤ℤ midnight day) × (midnight (day +ℤ pos 1) ≤ℤ (end_of_time -ℤ pos 172_800))
 
--- so many instants, one after another
-unfoldable pub instants_from : ℤ → ℕ → List ℤ
-instants_from t zero = []
-instants_from t (suc count) = t ∷ instants_from (t +ℤ pos 1) count
+-- so many instants from t on, each a second after the one before
+unfoldable pub seconds_from : ℤ → ℕ → List ℤ
+seconds_from t zero = []
+seconds_from t (suc count) = t ∷ seconds_from (t +ℤ pos 1) count
 
 -- at the instant t the clock shows a second of the day
 abbrev pub shows_day : ℤ → List SysInfo → ℤ → Bool

@@ -13,13 +13,13 @@ abbrev pub runs_alike : SysInfo → SysInfo → Bool
 runs_alike before range =
     int_eq before.offset range.offset && int_eq before.save range.save && pointwise nat_eq before.abbrev range.abbrev
 
--- of ranges that follow one another, those in which the clock doesn't run as in the range before
+-- the ranges behind one in which the clock doesn't run as in the range right before them
 abbrev pub moved_after : SysInfo → List SysInfo → List SysInfo
 moved_after before [] = []
 moved_after before (range ∷ later) =
     if runs_alike before range then moved_after range later else range ∷ moved_after range later
 
--- the first of all has none before it
+-- the ranges of a list that begin with a move: the first of all has none before it
 abbrev pub moved_ranges : List SysInfo → List SysInfo
 moved_ranges [] = []
 moved_ranges (first ∷ later) = moved_after first later
@@ -41,12 +41,12 @@ pub record IsPreviousMove (zone : CompiledZone) (t at : ℤ) : Type 0 where
   pub not_later : at ≤ℤ t
   pub greatest : (other : ℤ) → IsMove zone other → other ≤ℤ t → other ≤ℤ at
 
--- the stretch up to a move and its second, or up to the end of time where there is no move
+-- the end of a stretch that has the next move in it, or all later time where there is none
 abbrev pub end_with : Option ℤ → ℤ
 end_with None = end_of_time
 end_with (Some at) = at +ℤ pos 1
 
--- the stretch from the second before a move, or from the beginning of time where there is no move
+-- the begin of a stretch that has the second before the previous move in it, or all earlier time where there is none
 abbrev pub begin_with : Option ℤ → ℤ
 begin_with None = first_instant
 begin_with (Some at) = at -ℤ pos 1

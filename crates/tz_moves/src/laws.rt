@@ -5,7 +5,7 @@ ghost use Rattle.tz_types.specs.declared.range.SysInfo.{SysInfo};
 ghost use Rattle.tz_specs.specs.Expansion.{first_instant, end_of_time};
 ghost use Rattle.tz_expand.specs.declared.compiled_zone.CompiledZone.{CompiledZone};
 ghost use Rattle.tz_expand.specs.Zone.{expansion_of};
-ghost use Rattle.tz_moves.specs.Day.{day_seconds, instants_from, shows_day};
+ghost use Rattle.tz_moves.specs.Day.{day_seconds, seconds_from, shows_day};
 ghost use Rattle.tz_moves.specs.Moves.{moved_ranges};
 
 /// Ranges that begin with a move are exactly those that differ from the range right before them in offset, save or
@@ -16,5 +16,5 @@ pub fn moves_begin_ranges_that_differ()
 
 /// The seconds of a day are as many as the instants in time at which the clock shows a second of it.
 pub fn day_seconds_are_counted()
-    ensures { (zone : CompiledZone) (day : ℤ) (all : ℕ) → pos all ≡ (end_of_time -ℤ first_instant) → day_seconds day (expansion_of zone) ≡ pos (count_by (shows_day day (expansion_of zone)) (instants_from first_instant all)) }
+    ensures { (zone : CompiledZone) (day : ℤ) (all : ℕ) → pos all ≡ (end_of_time -ℤ first_instant) → day_seconds day (expansion_of zone) ≡ pos (count_by (shows_day day (expansion_of zone)) (seconds_from first_instant all)) }
 {}

@@ -6,11 +6,8 @@ use Rattle.tz_specs.specs.Expansion.{first_instant}
 use Rattle.tz_specs.proofs.Tests.{int_lt-true, int_lt-false}
 use Rattle.tz_local.proofs.InfoLemmas.{walks_on}
 use Rattle.tz_moves.specs.Day.{IsDay, midnight}
-use Rattle.tz_moves.proofs.DayLemmas.{IsSummed, first_summed, next_summed, all_summed, few_summed, end_begun}
+use Rattle.tz_moves.proofs.DayLemmas.{fits_small, IsSummed, first_summed, next_summed, all_summed, few_summed, end_begun}
 use Rattle.tz_moves.proofs.day.seconds_among.Goals as goal
-
-fits_small : (z : ℤ) → neg_ℤ (pos 1_000_000_000_000) ≤ℤ z → z ≤ℤ pos 1_000_000_000_000 → FitsSigned w64 z
-fits_small z low high = search rules
 
 midnight_fits : (day : ℤ) → IsDay day → FitsSigned w64 (day *ℤ pos 86_400)
 midnight_fits day inside = fits_small (midnight day) (omega (arith, ints, signed_arith, inside)) (omega (arith, ints, signed_arith, inside))

@@ -4,11 +4,8 @@ use Rattle.std.proofs.lemmas.Int.{ints, to_z-of_z, clamps}
 use Rattle.jiff_core.specs.Calendar.{IsBetween}
 use Rattle.jiff_core.proofs.SignedLemmas.{signed_arith}
 use Rattle.tz_moves.specs.Day.{midnight, seconds_in}
-use Rattle.tz_moves.proofs.DayLemmas.{shared_low, shared_high, day_long}
+use Rattle.tz_moves.proofs.DayLemmas.{fits_small, shared_low, shared_high, day_long}
 use Rattle.tz_moves.proofs.day.seconds_in.Goals as goal
-
-fits_small : (z : ℤ) → neg_ℤ (pos 1_000_000_000_000) ≤ℤ z → z ≤ℤ pos 1_000_000_000_000 → FitsSigned w64 z
-fits_small z low high = search rules
 
 first_is : (c : goal.After-min-last) → c.max-first.result ≡ int_max (c.args.range.now.begin +ℤ c.args.range.now.offset) (midnight c.args.day)
 first_is c =
