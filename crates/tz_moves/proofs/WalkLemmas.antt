@@ -341,7 +341,7 @@ last_holds a b t (first ∷ second ∷ seen) others before covers low last found
     let rest = last_holds first.end b t (second ∷ seen) others before covers.2 past last (sym (range_at-rest t first (second ∷ seen ++ others) (after-holds t first past)) ∙ found) in
     record {
       earlier = first ∷ rest.earlier;
-      split = ap (λ (rs : List SysInfo). first ∷ rs) rest.split;
+      split = ap (λ (rs : List SysInfo). first ∷ rs) {y = rest.earlier ++ before ∷ []} rest.split;
       ends = rest.ends;
       takes = rest.takes;
       covered = (covers.0, covers.1, rest.covered);
