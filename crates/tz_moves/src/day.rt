@@ -12,8 +12,8 @@ use tz_expand::CompiledZone;
 use tz_local::OutOfRange;
 use tz_types::{END_OF_TIME, FIRST_INSTANT, Steps, SysInfo};
 
-/// The most by which a local time is ahead of universal time or behind it, in seconds: a standard offset and a save of a
-/// day each.
+/// The most by which a local time is ahead of universal time or behind it, in seconds: a standard offset and a save
+/// of a day each.
 const MOST_OFFSET: i64 = 172_800;
 
 /// The seconds from one midnight to the next on a clock that doesn't move.
@@ -66,9 +66,9 @@ fn seconds_uncounted<L: Ledger>(zone: &CompiledZone, day: i64, blank: Blank) -> 
     seconds_among(zone, day, &mut steps)
 }
 
-/// How many seconds the zone's clock shows of a day, counted from 1970-01-01: 86400, but for days on which it is put forward
-/// or back. `OutOfRange` comes exactly where the day doesn't begin two days or more after -9999-01-01 00:00:00 and end two
-/// days or more before 10000-01-01 00:00:00. It takes no memory.
+/// How many seconds the zone's clock shows of a day, counted from 1970-01-01: 86400, but for days on which it is put
+/// forward or back. `OutOfRange` comes exactly where the day doesn't begin two days or more after -9999-01-01
+/// 00:00:00 and end two days or more before 10000-01-01 00:00:00. It takes no memory.
 pub fn day_seconds(zone: &CompiledZone, day: i64) -> Result<i64, OutOfRange>
     ensures in_range { IsOk result ↔ IsDay day }
     ensures seconds { IfOk result (λ seconds. seconds ≡ day_seconds day (expansion_of zone.now)) }

@@ -12,8 +12,8 @@ use std::sync::ledger::{Blank, Ledger};
 use tz_expand::{CompiledZone, expand_between};
 use tz_types::{Abbrev, FIRST_INSTANT, NoMemory, Steps, SysInfo};
 
-/// A visible change of a zone's clock at the instant `at`. From then on local time is `offset` seconds ahead of universal
-/// time, of which `save` are daylight saving, and is called `abbrev`.
+/// A visible change of a zone's clock at the instant `at`. From then on local time is `offset` seconds ahead of
+/// universal time, of which `save` are daylight saving, and is called `abbrev`.
 #[derive(Debug, PartialEq, Drop)]
 pub struct Move {
     pub at: i64,
@@ -38,7 +38,8 @@ impl Move {
 
 /// Puts the move between two ranges behind those before it, if the clock doesn't run alike in them.
 fn push_move(moves: &mut Vec<Move>, before: &SysInfo, range: &SysInfo) -> Result<(), NoMemory>
-    ensures { OnOk result ((later : List SysInfo) → moves.new.items ++ map move_to (moved_after range.now later) ≡ moves.old.items ++ map move_to (moved_after before.now (range.now ∷ later))) }
+    ensures { OnOk result ((later : List SysInfo) → moves.new.items ++ map move_to (moved_after range.now later)
+        ≡ moves.old.items ++ map move_to (moved_after before.now (range.now ∷ later))) }
 {
     if !runs_alike(before, range) {
         moves.push(Move::to(range))?;
@@ -75,8 +76,8 @@ fn expand_uncounted<L: Ledger>(
     expand_between(alloc, zone, from, to, &mut steps)
 }
 
-/// The moves of the zone's clock from an instant up to but excluding another, in seconds from 1970-01-01 00:00:00: all of
-/// them, in the order of time, each with what the clock shows from then on.
+/// The moves of the zone's clock from an instant up to but excluding another, in seconds from 1970-01-01 00:00:00:
+/// all of them, in the order of time, each with what the clock shows from then on.
 pub fn moves_between(
     alloc: Global,
     zone: &CompiledZone,

@@ -11,13 +11,15 @@ use std::sync::ledger::Ledger;
 use tz_expand::CompiledZone;
 use tz_types::{END_OF_TIME, FIRST_INSTANT, Steps};
 
-/// The least move of the zone's clock after the instant `t`, and None exactly where there is none. It takes no memory, and
-/// few rule steps for each range from that of `t` to that which begins with the move, or to the last.
+/// The least move of the zone's clock after the instant `t`, and None exactly where there is none. It takes no
+/// memory, and few rule steps for each range from that of `t` to that which begins with the move, or to the last.
 pub fn next_move<L: Ledger>(zone: &CompiledZone, t: i64, steps: &mut Steps<L>) -> Option<i64>
     requires { IsInstant t }
     ensures at { IfSome result (λ at. IsNextMove zone.now t at) }
     ensures none { (result ≡ None) ↔ ((other : ℤ) → IsMove zone.now other → other ≤ℤ t) }
-    ensures steps { let rules = most_rules_followed (periods zone.now.lines) in steps.new ≤ steps.old + length (ranges_between zone.now t (end_with result)) * (16 * (rules * (rules + 2))) }
+    ensures steps { let rules = most_rules_followed (periods zone.now.lines) in
+        let ranges = length (ranges_between zone.now t (end_with result)) in
+        steps.new ≤ steps.old + ranges * (16 * (rules * (rules + 2))) }
 {
     let mut before = range_at(zone, t, steps);
     while before.end < END_OF_TIME {
@@ -30,13 +32,15 @@ pub fn next_move<L: Ledger>(zone: &CompiledZone, t: i64, steps: &mut Steps<L>) -
     None
 }
 
-/// The greatest move of the zone's clock at or before the instant `t`, and None exactly where there is none. It takes no
-/// memory, and few rule steps for each range from that before the move, or from the first, to that of `t`.
+/// The greatest move of the zone's clock at or before the instant `t`, and None exactly where there is none. It takes
+/// no memory, and few rule steps for each range from that before the move, or from the first, to that of `t`.
 pub fn previous_move<L: Ledger>(zone: &CompiledZone, t: i64, steps: &mut Steps<L>) -> Option<i64>
     requires { IsInstant t }
     ensures at { IfSome result (λ at. IsPreviousMove zone.now t at) }
     ensures none { (result ≡ None) ↔ ((other : ℤ) → IsMove zone.now other → t <ℤ other) }
-    ensures steps { let rules = most_rules_followed (periods zone.now.lines) in steps.new ≤ steps.old + length (ranges_between zone.now (begin_with result) (t +ℤ pos 1)) * (16 * (rules * (rules + 2))) }
+    ensures steps { let rules = most_rules_followed (periods zone.now.lines) in
+        let ranges = length (ranges_between zone.now (begin_with result) (t +ℤ pos 1)) in
+        steps.new ≤ steps.old + ranges * (16 * (rules * (rules + 2))) }
 {
     let mut range = range_at(zone, t, steps);
     while range.begin > FIRST_INSTANT {

@@ -25,7 +25,8 @@ pub(crate) fn range_at<L: Ledger>(zone: &CompiledZone, t: i64, steps: &mut Steps
     ensures near { IsWithin 172_800 result.offset }
     ensures in_time { IsInTime result }
     ensures holds { (result.begin ≤ℤ t) × (t <ℤ result.end) }
-    ensures steps { let rules = most_rules_followed (periods zone.now.lines) in steps.new ≤ steps.old + 16 * (rules * (rules + 2)) }
+    ensures steps { let rules = most_rules_followed (periods zone.now.lines) in
+        steps.new ≤ steps.old + 16 * (rules * (rules + 2)) }
 {
     match info_at(zone, t, steps) {
         Some(range) => range,
