@@ -1,0 +1,4 @@
+pub mod PieceLemmas
+pub mod DistinctLemmas
+pub mod RefusalLemmas
+pub mod NearLemmas

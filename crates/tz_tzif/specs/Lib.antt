@@ -1,0 +1,5 @@
+pub mod Types
+pub mod Designations
+pub mod File
+pub mod Refusal
+pub mod Answer
