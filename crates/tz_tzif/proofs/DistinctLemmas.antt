@@ -100,7 +100,7 @@ fields offset is_daylight designation =
       designation = designation;
     }
 
-same_fields : (x y : LocalType) → x.offset ≡ y.offset → x.is_daylight ≡ y.is_daylight → x.designation ≡ y.designation → x ≡ y
+pub same_fields : (x y : LocalType) → x.offset ≡ y.offset → x.is_daylight ≡ y.is_daylight → x.designation ≡ y.designation → x ≡ y
 unfolding fields
 same_fields x y offset daylight designation =
     let whole : fields x.offset x.is_daylight x.designation ≡ fields y.offset y.is_daylight y.designation = rw (offset, daylight, designation) refl in

@@ -3,3 +3,4 @@ pub mod Designations
 pub mod File
 pub mod Refusal
 pub mod Answer
+pub mod Meaning

@@ -1,7 +1,8 @@
 //! The designations of types (RFC 8536, section 3.2): abbreviations, each followed by a zero octet.
 ghost use Rattle.std.specs.Prelude.{◌≡◌, ◌≤◌, ◌*◌, [], ◌∷◌, ◌++◌, length, IfOk, OnOk, if◌then◌else◌};
-ghost use Rattle.std.specs.List.{list_any};
+ghost use Rattle.std.specs.List.{All, list_any};
 ghost use Rattle.std.specs.Str.{bytes_eq};
+ghost use Rattle.tz_types.specs.Text.{IsText};
 ghost use Rattle.tz_tzif.specs.Designations.{designations_of, designation_octets, index_in};
 
 use crate::LocalType;
@@ -47,7 +48,8 @@ pub fn index_in(designations: &[Abbrev], designation: &Abbrev) -> usize
 
 /// The designations as octets, one after another.
 pub fn octets_of(alloc: Global, designations: &[Abbrev]) -> Result<Vec<u8>, NoMemory>
-    ensures { IfOk result (λ octets. octets.items ≡ designation_octets designations.now) }
+    ensures octets { IfOk result (λ octets. octets.items ≡ designation_octets designations.now) }
+    ensures texts { OnOk result (All (IsText 0 32) designations.now) }
 {
     let mut octets = Vec::new(alloc);
     for designation in designations {

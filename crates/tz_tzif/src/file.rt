@@ -3,12 +3,16 @@ ghost use Rattle.std.specs.Prelude.{◌≡◌, ◌≤◌, ◌<◌, ◌^◌, ◌+
 ghost use Rattle.std.specs.List.{All};
 ghost use Rattle.jiff_core.specs.Calendar.{IsWithin};
 ghost use Rattle.tz_types.specs.declared.range.SysInfo.{SysInfo};
+ghost use Rattle.tz_types.specs.Text.{IsText};
+ghost use Rattle.tz_specs.specs.Expansion.{range_at};
+ghost use Rattle.tz_expand.specs.Zone.{expansion_of};
 ghost use Rattle.tz_expand.specs.Stretch.{IsStretch, ranges_between};
 ghost use Rattle.tz_tzif.specs.Types.{type_of, merged, types_of, transitions_after};
 ghost use Rattle.tz_tzif.specs.Designations.{designations_of, designation_octets, indices_in};
 ghost use Rattle.tz_tzif.specs.File.{data_octets, file_of, spelling};
 ghost use Rattle.tz_tzif.specs.Refusal.{first_far, TellsFar};
 ghost use Rattle.tz_tzif.specs.Answer.{Answers};
+ghost use Rattle.tz_tzif.specs.Meaning.{Means};
 
 use crate::designations::{designations_of, octets_of};
 use crate::octets::{put_first_block, put_header, put_numbers, put_times, put_types};
@@ -94,6 +98,7 @@ fn file_of(
     requires near { All (λ local_type. IsWithin 172_800 local_type.offset) types.now }
     ensures file { IfOk result (λ file. file.items ≡ file_of transitions.now types.now designations.now) }
     ensures counted { OnOk result (length transitions.now < 2 ^ 32) }
+    ensures texts { OnOk result (All (IsText 0 32) designations.now) }
     ensures held { OnOk result (first_far (indices_in designations.now types.now) ≡ None) }
     ensures refused { IfErr result (λ error. TellsFar error (first_far (indices_in designations.now types.now))) }
 {
@@ -123,6 +128,7 @@ fn spelling(alloc: Global, mut ranges: Vec<SysInfo>, a: i64) -> Result<Vec<u8>, 
     requires { All (λ range. IsWithin 172_800 range.offset) ranges.items }
     ensures answers { Answers a ranges.items result }
     ensures counted { OnOk result (length (transitions_after a (merged ranges.items)) < 2 ^ 32) }
+    ensures texts { OnOk result (All (IsText 0 32) (designations_of (types_of (merged ranges.items)))) }
 {
     merge(&mut ranges);
     let types = types_of(alloc, ranges.as_slice())?;
@@ -148,7 +154,8 @@ fn spelling(alloc: Global, mut ranges: Vec<SysInfo>, a: i64) -> Result<Vec<u8>, 
 /// tells the first such. There is no file either, for want of memory, where there are 2^32 transitions.
 pub fn tzif(alloc: Global, zone: &CompiledZone, a: i64, b: i64) -> Result<Vec<u8>, TzifError>
     requires { IsStretch a b }
-    ensures { Answers a (ranges_between zone.now a b) result }
+    ensures answers { Answers a (ranges_between zone.now a b) result }
+    ensures means { IfOk result (λ file. (t : ℤ) (range : SysInfo) → a ≤ℤ t → t <ℤ b → range_at (expansion_of zone.now) t ≡ Some range → Means file.items t (type_of range)) }
 {
     let ranges = expand_uncounted::<Brand>(alloc, zone, a, b, Blank::new(1))?;
     spelling(alloc, ranges, a)

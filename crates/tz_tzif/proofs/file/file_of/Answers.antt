@@ -16,4 +16,4 @@ returns-clause-file c =
     let chars : c.in_ok-octet_count.octet_count ≡ length octets = search rules in
     let one : c.put_first_block.new.file.items ≡ [] ++ first_block = search rules in
     let slice : c.as_slice.result.now ≡ octets = search rules in
-    whole c.args.transitions.now c.args.types.now c.args.designations.now c.put_first_block.new.file.items c.put_header.new.file.items c.put_data.new.file.items c.put_octets.new.file.items octets c.in_ok-transition_count.transition_count c.in_ok-type_count.type_count c.in_ok-octet_count.octet_count c.in_ok-octets.ensures c.in_ok-transition_count.ensures c.in_ok-type_count.ensures chars one c.in_ok-put_header.ensures c.in_ok-put_data.ensures.put c.in_ok-put_octets.ensures
+    whole c.args.transitions.now c.args.types.now c.args.designations.now c.put_first_block.new.file.items c.put_header.new.file.items c.put_data.new.file.items c.put_octets.new.file.items octets c.in_ok-transition_count.transition_count c.in_ok-type_count.type_count c.in_ok-octet_count.octet_count c.in_ok-octets.ensures.octets c.in_ok-transition_count.ensures c.in_ok-type_count.ensures chars one c.in_ok-put_header.ensures c.in_ok-put_data.ensures.put c.in_ok-put_octets.ensures
