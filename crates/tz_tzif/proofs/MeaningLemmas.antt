@@ -4,6 +4,7 @@ use Rattle.std.specs.Prelude.{slice_get, slice_index, take_while}
 use Rattle.std.specs.Int.{w32, w64, to_be_bytes, from_be_bytes, cast_unsigned, cast_signed}
 use Rattle.std.specs.List.{flat_map}
 use Rattle.std.proofs.lemmas.Int.{ints, to_z-of_z}
+use Rattle.std.proofs.lemmas.Bool.{cases_order}
 use Rattle.std.proofs.lemmas.List.{append_assoc, drop_at, take_at, drop-drop, get_or-drop, length-map}
 use Rattle.std.proofs.lemmas.Nat.{from_be_bytes-to_be_bytes_4, from_be_bytes-to_be_bytes_8}
 use Rattle.std.proofs.Math.Facts.{Fits-of_z}
@@ -17,10 +18,10 @@ use Rattle.tz_tzif.specs.declared.local_type.LocalType.{LocalType}
 use Rattle.tz_tzif.specs.Types.{type_of, number_in}
 use Rattle.tz_tzif.specs.Designations.{designation_octets, index_in}
 use Rattle.tz_tzif.specs.File.{header, first_block, time_octets, type_octets, file_of}
-use Rattle.tz_tzif.specs.Meaning.{offset_at, time_count, type_count, transition_time, transition_type, type_place, designation_place, type_at, Means}
+use Rattle.tz_tzif.specs.Meaning.{offset_at, time_count, type_count, transition_time, transition_type, type_place, designation_place, type_at, IsLatest, IsTypeNumber, Means}
 use Rattle.tz_tzif.proofs.DistinctLemmas.{same_fields}
 use Rattle.tz_tzif.proofs.PlaceLemmas.{length_pieces, piece_at, get_at, get-map, get_some, some_within, is_letter, text_before, at_index}
-use Rattle.tz_tzif.proofs.MergedLemmas.{AllAfter, IsLast, HasLast, InForce, after_at}
+use Rattle.tz_tzif.proofs.MergedLemmas.{AllAfter, IsLast, HasLast, InForce, Rising, after_at, rising_at}
 
 -- the parts of the data, each before the ones behind it
 abbrev footer : List ℕ
@@ -70,6 +71,48 @@ is_file transitions types designations many few =
       kinds = type_count_is transitions types designations few;
     }
 
+-- ---- one meaning
+-- the times of a file's transitions rise
+abbrev pub TimesRise : List ℕ → Type 0
+TimesRise file =
+    (number other : ℕ) → number < other → other < time_count file → transition_time file number <ℤ transition_time file other
+
+one_latest : (file : List ℕ) (t : ℤ) (number other : ℕ) → TimesRise file → IsLatest file t number → IsLatest file t other → number ≡ other
+one_latest file t number other rise is has =
+    ⊎_elim (λ (same : number ≡ other). same)
+    (⊎_elim
+    (λ (before : number < other). absurd (omega (arith, ints, rise number other before has.inside, is.greatest other has.inside has.come)))
+    (λ (after : other < number). absurd (omega (arith, ints, rise other number after is.inside, has.greatest number is.inside is.come))))
+    (cases_order number other)
+
+not_before : {P : Type 0} (file : List ℕ) (t : ℤ) (number : ℕ) → IsLatest file t number → ((other : ℕ) → other < time_count file → t <ℤ transition_time file other) → P
+not_before file t number is none = absurd (omega (arith, ints, is.come, none number is.inside))
+
+abbrev HasLatest : List ℕ → ℤ → ℕ → Type 0
+HasLatest file t number = (place : ℕ) × IsLatest file t place × (number ≡ transition_type file place)
+
+abbrev HasNone : List ℕ → ℤ → ℕ → Type 0
+HasNone file t number =
+    ((place : ℕ) → place < time_count file → t <ℤ transition_time file place) × (number ≡ 0)
+
+one_number : (file : List ℕ) (t : ℤ) (number other : ℕ) → TimesRise file → IsTypeNumber file t number → IsTypeNumber file t other → number ≡ other
+one_number file t number other rise is has =
+    ⊎_elim
+    (λ (some : HasLatest file t number).
+    ⊎_elim
+    (λ (too : HasLatest file t other). some.2 ∙ ap (λ place. transition_type file place) (one_latest file t some.0 too.0 rise some.1 too.1) ∙ sym too.2)
+    (λ (none : HasNone file t other). not_before file t some.0 some.1 none.0)
+    has)
+    (λ (none : HasNone file t number).
+    ⊎_elim (λ (some : HasLatest file t other). not_before file t some.0 some.1 none.0)
+    (λ (too : HasNone file t other). none.1 ∙ sym too.1)
+    has)
+    is
+
+pub one_meaning : (file : List ℕ) (t : ℤ) (x y : LocalType) → TimesRise file → Means file t x → Means file t y → x ≡ y
+one_meaning file t x y rise is has =
+    sym is.2 ∙ ap (λ number. type_at file number) (one_number file t is.0 has.0 rise is.1 has.1) ∙ has.2
+
 -- ---- signed numbers
 pub fits_offset : (z : ℤ) → IsWithin 172_800 z → FitsSigned w32 z
 fits_offset (pos n) near = record { sfits = omega (arith, ints) }
@@ -90,6 +133,9 @@ read_eight z fits =
     ap (λ n. cast_signed w64 n) (from_be_bytes-to_be_bytes_8 (cast_unsigned w64 z) bits.fits) ∙ to_z-of_z w64 z fits
 
 -- ---- where the parts begin
+lt_trans : (a b c : ℕ) → a < b → b < c → a < c
+lt_trans a b c h k = omega arith
+
 nine : (n : ℕ) → 95 + 9 * n ≡ (95 + 8 * n) + n
 nine n = omega arith
 
@@ -160,6 +206,13 @@ module _ (file : List ℕ) (transitions : List SysInfo) (types : List LocalType)
       ∙ text.1 in
       same_fields (type_at file number) x offset (ap (λ n. n == 1) mark ∙ marked x.is_daylight)
       (ap (λ xs. take_while is_letter xs) texts ∙ text_before x.designation text.0 printable)
+
+  pub times_rise : Rising transitions → ((place : ℕ) (range : SysInfo) → slice_get transitions place ≡ Some range → FitsSigned w64 range.begin) → TimesRise file
+  times_rise rising fits number other before within =
+      let one = get_some transitions number (rw is.times at (lt_trans number other (time_count file) before within)) in
+      let later = get_some transitions other (rw is.times at within) in
+      rw (time_is number one.0 one.1 (fits number one.0 one.1), time_is other later.0 later.1 (fits other later.0 later.1))
+      (rising_at transitions number other one.0 later.0 rising before one.1 later.1)
 
   -- ---- the whole
   pub means : (t : ℤ) (first now : LocalType) → InForce t first transitions now → ((place : ℕ) (range : SysInfo) → slice_get transitions place ≡ Some range → FitsSigned w64 range.begin) → slice_get types 0 ≡ Some first → ((range : SysInfo) → In range transitions → slice_get types (number_in types (type_of range)) ≡ Some (type_of range)) → ((number : ℕ) → slice_get types number ≡ Some now → type_at file number ≡ now) → Means file t now

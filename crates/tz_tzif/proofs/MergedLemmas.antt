@@ -1,5 +1,5 @@
 -- Which type is in force at an instant of a stretch, told by the merged ranges.
-use Rattle.std.proofs.Common.{◌≡◌, ℕ, zero, suc, true, false, cond, ◌⊎◌, inl, inr, ⊎_elim, refl, sym, ap, ◌∙◌, arith, List, [], ◌∷◌, Some, ℤ, ◌<ℤ◌, ◌≤ℤ◌}
+use Rattle.std.proofs.Common.{◌≡◌, ℕ, zero, suc, ◌<◌, true, false, cond, ◌⊎◌, inl, inr, ⊎_elim, refl, sym, ap, ◌∙◌, arith, List, [], ◌∷◌, Some, ℤ, ◌<ℤ◌, ◌≤ℤ◌}
 use Rattle.std.specs.Prelude.{filter, int_lt, slice_get}
 use Rattle.std.specs.List.{dedup_from}
 use Rattle.std.proofs.lemmas.Int.{ints, by_lt_z}
@@ -68,6 +68,31 @@ after_at a (first ∷ later) zero range after there =
     let same : first ≡ range = same_Some first range there in
     rw (← same) after.0
 after_at a (first ∷ later) (suc place) range after there = after_at a later place range after.1 there
+
+-- ---- ranges of which each begins after the one before it
+abbrev pub Rising : List SysInfo → Type 0
+Rising [] = Unit {0}
+Rising (range ∷ later) = AllAfter range.begin later × Rising later
+
+pub covers_rising : (low high : ℤ) (ranges : List SysInfo) → Covers low high ranges → Rising ranges
+covers_rising low high [] covers = tt
+covers_rising low high (range ∷ later) covers =
+    (covers_after range.begin range.end high later covers.2 covers.1, covers_rising range.end high later covers.2)
+
+pub changes_rising : (kept : SysInfo) (ranges : List SysInfo) → Rising ranges → Rising (changes kept ranges)
+changes_rising kept [] rising = tt
+changes_rising kept (range ∷ later) rising =
+    by_test (are_alike range kept) (λ e. rw e (changes_rising kept later rising.1))
+    (λ e. rw e (changes_after range.begin range later rising.0, changes_rising range later rising.1))
+
+pub rising_at : (ranges : List SysInfo) (place other : ℕ) (range its : SysInfo) → Rising ranges → place < other → slice_get ranges place ≡ Some range → slice_get ranges other ≡ Some its → range.begin <ℤ its.begin
+rising_at [] place other range its rising before there here = absurd (none-some range there)
+rising_at (first ∷ later) place zero range its rising before there here = absurd (omega arith)
+rising_at (first ∷ later) zero (suc other) range its rising before there here =
+    let same : first ≡ range = same_Some first range there in
+    rw (← same) (after_at first.begin later other its rising.0 here)
+rising_at (first ∷ later) (suc place) (suc other) range its rising before there here =
+    rising_at later place other range its rising.1 (omega arith) there here
 
 -- ---- the type in force
 -- the range at this place is the greatest at or before t

@@ -4,15 +4,13 @@ use Rattle.std.specs.Prelude.{filter}
 use Rattle.std.specs.List.{All}
 use Rattle.std.proofs.lemmas.List.{get_or_default}
 use Rattle.std.proofs.lemmas.List.Filters.{All-dedup}
-use Rattle.jiff_core.specs.Calendar.{IsWithin}
 use Rattle.tz_types.specs.declared.range.SysInfo.{SysInfo}
 use Rattle.tz_specs.proofs.ListLemmas.{In, In-from_Contains, Contains-from_In, In-filter_back, In-map_back}
 use Rattle.tz_expand.specs.declared.compiled_zone.CompiledZone.{CompiledZone}
 use Rattle.tz_expand.specs.Zone.{expansion_of}
 use Rattle.tz_expand.specs.Stretch.{meets, ranges_between}
 use Rattle.tz_local.proofs.OffsetLemmas.{offset_near}
-use Rattle.tz_tzif.specs.declared.local_type.LocalType.{LocalType}
-use Rattle.tz_tzif.specs.Types.{distinct, same_type, are_alike, type_of, merged, types_of}
+use Rattle.tz_tzif.specs.Types.{distinct, same_type, are_alike, type_of, merged, types_of, HasNearOffset}
 
 pub All-from_In : {X : Type 0} (P : X → Type 0) (xs : List X) → ((x : X) → In x xs → P x) → All P xs
 All-from_In P xs each k d within =
@@ -34,10 +32,7 @@ In-distinct_back same (y ∷ xs) x has =
     has
 
 abbrev pub IsNear : SysInfo → Type 0
-IsNear range = IsWithin 172_800 range.offset
-
-abbrev pub HasNearOffset : LocalType → Type 0
-HasNearOffset local_type = IsWithin 172_800 local_type.offset
+IsNear range = HasNearOffset (type_of range)
 
 merged_near : (ranges : List SysInfo) → All IsNear ranges → All IsNear (merged ranges)
 unfolding merged

@@ -1,18 +1,14 @@
 -- What is answered for the ranges that meet a stretch.
-use Rattle.std.specs.Prelude.{◌≡◌, ℕ, ◌<◌, ◌≤◌, List, length, ℤ, Option, Result, Ok, Err, Some, None, Vec}
+use Rattle.std.specs.Prelude.{◌≡◌, ℕ, ◌<◌, List, length, ℤ, Option, Result, Ok, Err, Some, None, Vec}
 use Rattle.std.specs.declared.alloc.Global.{Global}
 use Rattle.tz_types.specs.declared.range.SysInfo.{SysInfo}
 use Rattle.tz_tzif.specs.declared.local_type.LocalType.{LocalType}
 use Rattle.tz_tzif.specs.declared.tzif_error.TzifError.{TzifError}
 use Rattle.tz_tzif.specs.declared.tzif_error.TzifError.TheVariants as errors
-use Rattle.tz_tzif.specs.Types.{merged, types_of}
+use Rattle.tz_tzif.specs.Types.{merged, AreFew, types_of}
 use Rattle.tz_tzif.specs.Designations.{designations_of, indices_in}
 use Rattle.tz_tzif.specs.File.{spelling}
 use Rattle.tz_tzif.specs.Refusal.{first_far}
-
--- the types have numbers of one octet
-abbrev pub AreFew : List LocalType → Type 0
-AreFew types = length types ≤ 256
 
 -- the first of the indices of designations that no octet holds
 abbrev pub far_index : List LocalType → Option ℕ

@@ -1,4 +1,5 @@
--- What a file says by the words of RFC 8536, section 3, where its block of version 1 has 51 octets.
+-- What a file says by the words of RFC 8536, section 3, where its block of version 1 has one type, an empty designation and
+-- nothing else.
 use Rattle.std.specs.Prelude.{◌≡◌, ℕ, ◌+◌, ◌*◌, ◌==◌, ◌<◌, ◌⊎◌, not, List, take, drop, take_while, slice_index, ℤ, ◌≤ℤ◌, ◌<ℤ◌}
 use Rattle.std.specs.Int.{w32, w64, from_be_bytes, cast_signed}
 use Rattle.tz_tzif.specs.declared.local_type.LocalType.{LocalType}
@@ -19,24 +20,36 @@ time_at file place = cast_signed w64 (from_be_bytes w64 (take 8 (drop place file
 abbrev pub text_at : List ℕ → ℕ → List ℕ
 text_at file place = take_while (λ octet. not (octet == 0)) (drop place file)
 
--- The second header begins after 51 octets. Its counts of transitions and of types stand 32 and 36 octets further on.
+-- a header has 44 octets
+abbrev pub header_size : ℕ
+header_size = 44
+
+-- the second one begins behind the first and its seven octets of data
+abbrev pub header_place : ℕ
+header_place = header_size + 7
+
+-- the data of the second block begin behind it
+abbrev pub data_place : ℕ
+data_place = header_place + header_size
+
+-- Of the six counts, that of transitions begins 32 octets after the header does, and that of types 36 octets.
 abbrev pub time_count : List ℕ → ℕ
-time_count file = count_at file 83
+time_count file = count_at file (header_place + 32)
 
 abbrev pub type_count : List ℕ → ℕ
-type_count file = count_at file 87
+type_count file = count_at file (header_place + 36)
 
--- Behind the header's 44 octets stand the times of the transitions, eight octets each,
+-- The data have the times of the transitions, eight octets each,
 abbrev pub transition_time : List ℕ → ℕ → ℤ
-transition_time file number = time_at file (95 + 8 * number)
+transition_time file number = time_at file (data_place + 8 * number)
 
 -- then their types, an octet each,
 abbrev pub transition_type : List ℕ → ℕ → ℕ
-transition_type file number = slice_index file (95 + 8 * time_count file + number)
+transition_type file number = slice_index file (data_place + 8 * time_count file + number)
 
 -- then the types, six octets each,
 abbrev pub type_place : List ℕ → ℕ → ℕ
-type_place file number = 95 + 9 * time_count file + 6 * number
+type_place file number = data_place + 9 * time_count file + 6 * number
 
 -- and then the designations.
 abbrev pub designation_place : List ℕ → ℕ

@@ -1,9 +1,10 @@
 -- Ranges by their types: neighbours of equal type are one, and the types are numbered.
-use Rattle.std.specs.Prelude.{ℕ, Bool, not, ◌&&◌, List, [], ◌∷◌, map, filter, position, unwrap_or, int_lt, ℤ, pos}
+use Rattle.std.specs.Prelude.{ℕ, ◌≤◌, Bool, not, ◌&&◌, List, [], ◌∷◌, length, map, filter, position, unwrap_or, int_lt, ℤ, pos}
 use Rattle.std.specs.List.{dedup}
 use Rattle.std.specs.Ordering.{int_eq}
 use Rattle.std.specs.Bool.{beq}
 use Rattle.std.specs.Str.{bytes_eq}
+use Rattle.jiff_core.specs.Calendar.{IsWithin}
 use Rattle.tz_types.specs.declared.range.SysInfo.{SysInfo}
 use Rattle.tz_tzif.specs.declared.local_type.LocalType.{LocalType}
 
@@ -15,6 +16,10 @@ type_of range =
       is_daylight = not (int_eq range.save (pos 0));
       designation = range.abbrev;
     }
+
+-- its offset is at most two days, with either sign
+abbrev pub HasNearOffset : LocalType → Type 0
+HasNearOffset local_type = IsWithin 172_800 local_type.offset
 
 -- the two are the same type
 abbrev pub same_type : LocalType → LocalType → Bool
@@ -41,6 +46,10 @@ distinct same (x ∷ xs) = x ∷ filter (λ y. not (same x y)) (distinct same xs
 -- the types of ranges, numbered from 0 by their places
 abbrev pub types_of : List SysInfo → List LocalType
 types_of ranges = distinct same_type (map type_of ranges)
+
+-- there are so few that their numbers are octets
+abbrev pub AreFew : {X : Type 0} → List X → Type 0
+AreFew xs = length xs ≤ 256
 
 -- the number of a type
 abbrev pub number_in : List LocalType → LocalType → ℕ

@@ -3,6 +3,7 @@ ghost use Rattle.std.specs.Prelude.{◌≡◌, ◌≤◌, ◌*◌, [], ◌∷◌
 ghost use Rattle.std.specs.List.{All, list_any};
 ghost use Rattle.std.specs.Str.{bytes_eq};
 ghost use Rattle.tz_types.specs.Text.{IsText};
+ghost use Rattle.tz_tzif.specs.Types.{AreFew};
 ghost use Rattle.tz_tzif.specs.Designations.{designations_of, designation_octets, index_in};
 
 use crate::LocalType;
@@ -32,7 +33,7 @@ pub fn designations_of(alloc: Global, types: &[LocalType]) -> Result<Vec<Abbrev>
 
 /// The number of octets before a designation.
 pub fn index_in(designations: &[Abbrev], designation: &Abbrev) -> usize
-    requires { length designations.now ≤ 256 }
+    requires { AreFew designations.now }
     ensures value { result ≡ index_in designations.now designation.now }
     ensures bound { result ≤ 33 * length designations.now }
 {

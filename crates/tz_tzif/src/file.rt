@@ -1,13 +1,13 @@
 //! Files (RFC 8536, section 3) of the ranges of a stretch of time.
-ghost use Rattle.std.specs.Prelude.{◌≡◌, ◌≤◌, ◌<◌, ◌^◌, ◌++◌, ℤ, ◌≤ℤ◌, ◌<ℤ◌, length, None, Some, IfOk, IfErr, OnOk};
+ghost use Rattle.std.specs.Prelude.{◌≡◌, ◌↔◌, ◌<◌, ◌^◌, ◌++◌, ℤ, ◌≤ℤ◌, ◌<ℤ◌, length, None, Some, IfOk, IfErr, OnOk};
 ghost use Rattle.std.specs.List.{All};
-ghost use Rattle.jiff_core.specs.Calendar.{IsWithin};
 ghost use Rattle.tz_types.specs.declared.range.SysInfo.{SysInfo};
 ghost use Rattle.tz_types.specs.Text.{IsText};
 ghost use Rattle.tz_specs.specs.Expansion.{range_at};
 ghost use Rattle.tz_expand.specs.Zone.{expansion_of};
 ghost use Rattle.tz_expand.specs.Stretch.{IsStretch, ranges_between};
-ghost use Rattle.tz_tzif.specs.Types.{type_of, merged, types_of, transitions_after};
+ghost use Rattle.tz_tzif.specs.declared.local_type.LocalType.{LocalType};
+ghost use Rattle.tz_tzif.specs.Types.{type_of, HasNearOffset, merged, AreFew, types_of, transitions_after};
 ghost use Rattle.tz_tzif.specs.Designations.{designations_of, designation_octets, indices_in};
 ghost use Rattle.tz_tzif.specs.File.{data_octets, file_of, spelling};
 ghost use Rattle.tz_tzif.specs.Refusal.{first_far, TellsFar};
@@ -24,7 +24,7 @@ use std::sync::ledger::{Blank, Ledger};
 use tz_expand::{CompiledZone, expand_between};
 use tz_types::{Abbrev, NoMemory, Steps, SysInfo};
 
-/// The most types that have numbers of one octet.
+/// The most types whose numbers are octets.
 const MOST_TYPES: usize = 256;
 
 /// The footer, with no rule between its newlines.
@@ -63,9 +63,9 @@ fn put_data(
     designations: &[Abbrev],
     octets: &[u8],
 ) -> Result<(), TzifError>
-    requires few_types { length types.now ≤ 256 }
-    requires few { length designations.now ≤ 256 }
-    requires near { All (λ local_type. IsWithin 172_800 local_type.offset) types.now }
+    requires few_types { AreFew types.now }
+    requires few { AreFew designations.now }
+    requires near { All HasNearOffset types.now }
     requires octets { octets.now ≡ designation_octets designations.now }
     ensures put { OnOk result (file.new.items ≡ file.old.items ++ data_octets transitions.now types.now designations.now) }
     ensures held { OnOk result (first_far (indices_in designations.now types.now) ≡ None) }
@@ -93,9 +93,9 @@ fn file_of(
     types: &[LocalType],
     designations: &[Abbrev],
 ) -> Result<Vec<u8>, TzifError>
-    requires few_types { length types.now ≤ 256 }
-    requires few { length designations.now ≤ 256 }
-    requires near { All (λ local_type. IsWithin 172_800 local_type.offset) types.now }
+    requires few_types { AreFew types.now }
+    requires few { AreFew designations.now }
+    requires near { All HasNearOffset types.now }
     ensures file { IfOk result (λ file. file.items ≡ file_of transitions.now types.now designations.now) }
     ensures counted { OnOk result (length transitions.now < 2 ^ 32) }
     ensures texts { OnOk result (All (IsText 0 32) designations.now) }
@@ -125,7 +125,7 @@ fn file_of(
 
 /// The file of the ranges that meet a stretch that begins at `a`.
 fn spelling(alloc: Global, mut ranges: Vec<SysInfo>, a: i64) -> Result<Vec<u8>, TzifError>
-    requires { All (λ range. IsWithin 172_800 range.offset) ranges.items }
+    requires { All (λ range. HasNearOffset (type_of range)) ranges.items }
     ensures answers { Answers a ranges.items result }
     ensures counted { OnOk result (length (transitions_after a (merged ranges.items)) < 2 ^ 32) }
     ensures texts { OnOk result (All (IsText 0 32) (designations_of (types_of (merged ranges.items)))) }
@@ -148,14 +148,14 @@ fn spelling(alloc: Global, mut ranges: Vec<SysInfo>, a: i64) -> Result<Vec<u8>, 
 }
 
 /// The zone as a file of version 2 (RFC 8536), for the stretch from `a` up to but excluding `b`, in seconds from 1970-01-01
-/// 00:00:00. At each instant of the stretch the file says the offset, the abbreviation and whether it is daylight saving
-/// time, as the zone does; its type 0 is the one in force at `a`. `Types` comes exactly where there are more than 256 types,
-/// and tells how many. `Designations` comes exactly where there are no more, but an index of a designation is above 255, and
-/// tells the first such. There is no file either, for want of memory, where there are 2^32 transitions.
+/// 00:00:00. There is one such file, and what it means at an instant of the stretch is the offset, the abbreviation and
+/// whether time is saved there; its type 0 is the one in force at `a`. `Types` comes exactly where there are more than 256
+/// types, and tells how many. `Designations` comes exactly where there are no more, but an index of a designation is above
+/// 255, and tells the first such. Where there are 2^32 transitions or more, it counts as want of memory.
 pub fn tzif(alloc: Global, zone: &CompiledZone, a: i64, b: i64) -> Result<Vec<u8>, TzifError>
     requires { IsStretch a b }
     ensures answers { Answers a (ranges_between zone.now a b) result }
-    ensures means { IfOk result (λ file. (t : ℤ) (range : SysInfo) → a ≤ℤ t → t <ℤ b → range_at (expansion_of zone.now) t ≡ Some range → Means file.items t (type_of range)) }
+    ensures means { IfOk result (λ file. (t : ℤ) (range : SysInfo) → a ≤ℤ t → t <ℤ b → range_at (expansion_of zone.now) t ≡ Some range → (local_type : LocalType) → Means file.items t local_type ↔ (local_type ≡ type_of range)) }
 {
     let ranges = expand_uncounted::<Brand>(alloc, zone, a, b, Blank::new(1))?;
     spelling(alloc, ranges, a)

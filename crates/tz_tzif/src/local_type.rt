@@ -1,6 +1,6 @@
 //! Local time types, after RFC 8536, section 3.2: what a clock shows in a range, whenever that is.
 ghost use Rattle.std.specs.Prelude.{◌≡◌};
-ghost use Rattle.tz_tzif.specs.Types.{type_of, same_type};
+ghost use Rattle.tz_tzif.specs.Types.{type_of};
 
 use tz_types::{Abbrev, SysInfo};
 
@@ -22,12 +22,5 @@ impl LocalType {
             is_daylight: range.save != 0,
             designation: range.abbrev.copied(),
         }
-    }
-
-    /// Whether it is the same type.
-    pub fn is(&self, other: &LocalType) -> bool
-        ensures { result ≡ same_type self.now other.now }
-    {
-        self == other
     }
 }

@@ -1,9 +1,8 @@
 //! The parts of a file as octets (RFC 8536, sections 3.1 and 3.2), each put behind those before it. Numbers have their
 //! highest octet first, signed ones in two's complement.
-ghost use Rattle.std.specs.Prelude.{◌≡◌, ◌≤◌, [], ◌∷◌, ◌++◌, length, map, None, IfErr, OnOk, if◌then◌else◌};
+ghost use Rattle.std.specs.Prelude.{◌≡◌, [], ◌∷◌, ◌++◌, map, None, IfErr, OnOk, if◌then◌else◌};
 ghost use Rattle.std.specs.List.{All, flat_map};
-ghost use Rattle.jiff_core.specs.Calendar.{IsWithin};
-ghost use Rattle.tz_tzif.specs.Types.{type_of, number_in};
+ghost use Rattle.tz_tzif.specs.Types.{type_of, HasNearOffset, AreFew, number_in};
 ghost use Rattle.tz_tzif.specs.Designations.{index_in, indices_in};
 ghost use Rattle.tz_tzif.specs.File.{header, first_block, time_octets, offset_octets, type_octets};
 ghost use Rattle.tz_tzif.specs.Refusal.{first_far, TellsFar};
@@ -60,7 +59,7 @@ pub fn put_numbers(
     transitions: &[SysInfo],
     types: &[LocalType],
 ) -> Result<(), NoMemory>
-    requires { length types.now ≤ 256 }
+    requires { AreFew types.now }
     ensures { OnOk result (file.new.items ≡ file.old.items ++ map (λ range. number_in types.now (type_of range)) transitions.now) }
 {
     for range in transitions {
@@ -75,8 +74,8 @@ fn put_type(
     local_type: &LocalType,
     designations: &[Abbrev],
 ) -> Result<(), TzifError>
-    requires few { length designations.now ≤ 256 }
-    requires near { IsWithin 172_800 local_type.now.offset }
+    requires few { AreFew designations.now }
+    requires near { HasNearOffset local_type.now }
     ensures put { OnOk result (file.new.items ≡ file.old.items ++ type_octets designations.now local_type.now) }
     ensures held { OnOk result (first_far (index_in designations.now local_type.now.designation ∷ []) ≡ None) }
     ensures refused { IfErr result (λ error. TellsFar error (first_far (index_in designations.now local_type.now.designation ∷ []))) }
@@ -91,7 +90,7 @@ fn put_type(
 
 /// The fields of a type whose designation has this index.
 fn put_fields(file: &mut Vec<u8>, local_type: &LocalType, index: u8) -> Result<(), NoMemory>
-    requires { IsWithin 172_800 local_type.now.offset }
+    requires { HasNearOffset local_type.now }
     ensures { OnOk result (file.new.items ≡ file.old.items ++ (offset_octets local_type.now.offset ++ (if local_type.now.is_daylight then 1 else 0) ∷ index ∷ [])) }
 {
     let offset = local_type.offset as i32;
@@ -107,8 +106,8 @@ pub fn put_types(
     types: &[LocalType],
     designations: &[Abbrev],
 ) -> Result<(), TzifError>
-    requires few { length designations.now ≤ 256 }
-    requires near { All (λ local_type. IsWithin 172_800 local_type.offset) types.now }
+    requires few { AreFew designations.now }
+    requires near { All HasNearOffset types.now }
     ensures put { OnOk result (file.new.items ≡ file.old.items ++ flat_map (type_octets designations.now) types.now) }
     ensures held { OnOk result (first_far (indices_in designations.now types.now) ≡ None) }
     ensures refused { IfErr result (λ error. TellsFar error (first_far (indices_in designations.now types.now))) }

@@ -1,7 +1,7 @@
 //! The types of ranges, numbered by their places (RFC 8536, section 3.2).
-ghost use Rattle.std.specs.Prelude.{◌≡◌, ◌<◌, ◌≤◌, [], ◌∷◌, ◌++◌, length, filter, int_lt, IfOk, OnOk, if◌then◌else◌};
+ghost use Rattle.std.specs.Prelude.{◌≡◌, ◌<◌, [], ◌∷◌, ◌++◌, IfOk, OnOk, if◌then◌else◌};
 ghost use Rattle.std.specs.List.{list_any};
-ghost use Rattle.tz_tzif.specs.Types.{type_of, same_type, are_alike, merged, transitions_after, types_of, number_in};
+ghost use Rattle.tz_tzif.specs.Types.{type_of, same_type, are_alike, merged, transitions_after, AreFew, types_of, number_in};
 
 use crate::LocalType;
 use std::alloc::Global;
@@ -14,7 +14,7 @@ fn are_alike(one: &SysInfo, other: &SysInfo) -> bool
     one.offset == other.offset && (one.save != 0) == (other.save != 0) && one.abbrev == other.abbrev
 }
 
-/// Makes neighbours of equal type one, which begins where the first of them does. Its end is that of the first.
+/// Makes neighbours of equal type one, which begins where the first of them does. It keeps that one's end, which no file has.
 pub fn merge(ranges: &mut Vec<SysInfo>)
     ensures { ranges.new.items ≡ merged ranges.old.items }
 {
@@ -52,7 +52,7 @@ pub fn types_of(alloc: Global, ranges: &[SysInfo]) -> Result<Vec<LocalType>, NoM
 /// The number of a type.
 pub fn number_in(types: &[LocalType], local_type: &LocalType) -> usize
     ensures value { result ≡ number_in types.now local_type.now }
-    ensures bound { length types.now ≤ 256 → result < 256 }
+    ensures bound { AreFew types.now → result < 256 }
 {
     types
         .iter()

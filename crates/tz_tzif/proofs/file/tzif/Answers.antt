@@ -1,4 +1,4 @@
-use Rattle.std.proofs.Common.{◌≡◌, ◌^◌, ◌<◌, List, ℕ, length, FitsSigned, Result, Ok, Err, IfOk, Vec, Global, ℤ, ◌≤ℤ◌, ◌<ℤ◌, Some}
+use Rattle.std.proofs.Common.{◌≡◌, ◌↔◌, ◌^◌, ◌<◌, List, ℕ, length, FitsSigned, Result, Ok, Err, IfOk, Vec, Global, ℤ, ◌≤ℤ◌, ◌<ℤ◌, Some}
 use Rattle.std.specs.Prelude.{OnOk}
 use Rattle.std.specs.Int.{w64}
 use Rattle.std.specs.List.{All}
@@ -10,6 +10,7 @@ use Rattle.tz_expand.specs.declared.compiled_zone.CompiledZone.{CompiledZone}
 use Rattle.tz_expand.specs.Zone.{expansion_of}
 use Rattle.tz_expand.specs.Stretch.{IsStretch, ranges_between}
 use Rattle.tz_tzif.specs.declared.tzif_error.TzifError.{TzifError}
+use Rattle.tz_tzif.specs.declared.local_type.LocalType.{LocalType}
 use Rattle.tz_tzif.specs.Types.{type_of, merged, transitions_after, types_of}
 use Rattle.tz_tzif.specs.Designations.{designations_of}
 use Rattle.tz_tzif.specs.Answer.{Answers}
@@ -25,7 +26,7 @@ spelling-requires c =
     let are : c.in_ok-ranges.ranges.items ≡ ranges_between c.args.zone.now c.args.a c.args.b = simp to_z-of_z at c.in_ok-ranges.ensures in
     rw are (ranges_near c.args.zone.now c.args.a c.args.b)
 
-answer_means : (zone : CompiledZone) (a b : ℤ) (ranges : List SysInfo) (answer : Result (Vec ℕ Global) TzifError) → IsStretch a b → ranges ≡ ranges_between zone a b → Answers a ranges answer → OnOk answer (length (transitions_after a (merged ranges)) < 2 ^ 32) → OnOk answer (All (IsText 0 32) (designations_of (types_of (merged ranges)))) → IfOk answer (λ file. (t : ℤ) (range : SysInfo) → a ≤ℤ t → t <ℤ b → range_at (expansion_of zone) t ≡ Some range → Means file.items t (type_of range))
+answer_means : (zone : CompiledZone) (a b : ℤ) (ranges : List SysInfo) (answer : Result (Vec ℕ Global) TzifError) → IsStretch a b → ranges ≡ ranges_between zone a b → Answers a ranges answer → OnOk answer (length (transitions_after a (merged ranges)) < 2 ^ 32) → OnOk answer (All (IsText 0 32) (designations_of (types_of (merged ranges)))) → IfOk answer (λ file. (t : ℤ) (range : SysInfo) → a ≤ℤ t → t <ℤ b → range_at (expansion_of zone) t ≡ Some range → (local_type : LocalType) → Means file.items t local_type ↔ (local_type ≡ type_of range))
 answer_means zone a b ranges (Ok file) stretch are answers many texts =
     stretch_means zone a b file.items stretch (rw are at answers.0) (rw are at many) (rw are at texts) (rw are at answers.2)
 answer_means zone a b ranges (Err error) stretch are answers many texts = tt
