@@ -4,3 +4,4 @@ pub mod File
 pub mod Refusal
 pub mod Answer
 pub mod Meaning
+pub mod Messages

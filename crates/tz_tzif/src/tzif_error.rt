@@ -17,6 +17,11 @@ pub enum TzifError {
 }
 
 impl fmt::Display for TzifError {
+    ghost use Rattle.std.specs.Prelude.{Some};
+    ghost use Rattle.tz_tzif.specs.Messages.{tzif_error_text};
+
+    ghost output = { λ error. Some (tzif_error_text error) };
+
     fn fmt<W: fmt::Write>(&self, f: &mut fmt::Formatter<W>) -> fmt::Result {
         match self {
             TzifError::NoMemory => f.write_str("memory ran out"),

@@ -30,6 +30,13 @@ const SHARED: &str = "Zone Test/Shared 0 - XEST 2000
 0 - XEST
 ";
 
+/// Saves of an hour and of two that give one offset, then none, and one below zero.
+const SAVES: &str = "Zone Test/Saves 0 1:00 X 2000
+-1 2:00 X 2001
+1 - X 2002
+1 -1:00 X
+";
+
 /// The same offset under twelve abbreviations of 24 letters.
 const TWELVE_NAMES: &str = "Zone W 0 - AAAAAAAAAAAAAAAAAAAAAA00 2000
 0 - AAAAAAAAAAAAAAAAAAAAAA01 2001
@@ -122,6 +129,24 @@ fn zone_of_saves(alloc: Global, saves: u32) -> Result<Option<CompiledZone>, NoMe
     zone_of(alloc, text.as_slice())
 }
 
+/// A zone of one offset under abbreviations of these lengths, each of one letter, from a year to the next from 2000 on.
+fn zone_of_names(alloc: Global, lengths: &[u32]) -> Result<Option<CompiledZone>, NoMemory> {
+    let mut text = Vec::new(alloc);
+    text.extend_from_slice(b"Zone Test/Names")?;
+    for (place, length) in lengths.iter().enumerate() {
+        let place = place.min(25);
+        if place > 0 {
+            let year = 1999 + place;
+            text.extend_from_slice(format!(in alloc; " {year}\n")?.as_bytes())?;
+        }
+        text.extend_from_slice(b" 0 - ")?;
+        for _ in 0..*length {
+            text.push(b'A' + place as u8)?;
+        }
+    }
+    zone_of(alloc, text.as_slice())
+}
+
 #[test]
 fn new_york_has_two_transitions_in_a_year(rt: HostRuntime) -> Result<(), Fail> {
     let parts = [
@@ -170,12 +195,36 @@ fn begin_of_the_stretch_is_no_transition(rt: HostRuntime) -> Result<(), Fail> {
 }
 
 #[test]
+fn marks_are_of_saves_that_are_not_zero(rt: HostRuntime) -> Result<(), Fail> {
+    let parts = [
+        FIRST_BLOCK,
+        SECOND_HEADER,
+        b"\0\0\0\x02\0\0\0\x03\0\0\0\x02",
+        b"\0\0\0\0\x3a\x4f\xba\x70\0\0\0\0\x3c\x30\xed\xf0",
+        b"\x01\x02",
+        b"\0\0\x0e\x10\x01\0\0\0\x0e\x10\0\0\0\0\0\0\x01\0",
+        b"X\0",
+        b"\n\n",
+    ];
+    tell(&rt, SAVES, YEAR_1999, YEAR_2004, parts.as_slice())
+}
+
+#[test]
 fn indices_are_octets(rt: HostRuntime) -> Result<(), Fail> {
     let zone = zone_of(rt.alloc(), TWELVE_NAMES.as_bytes())?.ok_or("the text is read")?;
     let eleven = tzif(rt.alloc(), &zone, YEAR_1999, YEAR_2010)?;
     assert_eq!(rt; eleven.len(), 95 + 10 * 9 + 11 * 6 + 275 + 2);
     let twelve = tzif(rt.alloc(), &zone, YEAR_1999, YEAR_2021);
     assert_eq!(rt; twelve, Err(TzifError::Designations { at: 275 }));
+
+    let last = [24, 24, 24, 24, 24, 24, 24, 24, 24, 24, 4, 24];
+    let zone = zone_of_names(rt.alloc(), last.as_slice())?.ok_or("the text is read")?;
+    let file = tzif(rt.alloc(), &zone, YEAR_1999, YEAR_2021)?;
+    assert_eq!(rt; file.len(), 95 + 11 * 9 + 12 * 6 + 255 + 25 + 2);
+    let far = [24, 24, 24, 24, 24, 24, 24, 24, 24, 24, 5, 1, 1];
+    let zone = zone_of_names(rt.alloc(), far.as_slice())?.ok_or("the text is read")?;
+    let refused = tzif(rt.alloc(), &zone, YEAR_1999, YEAR_2021);
+    assert_eq!(rt; refused, Err(TzifError::Designations { at: 256 }));
     Ok(())
 }
 
