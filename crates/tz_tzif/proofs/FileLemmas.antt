@@ -23,7 +23,7 @@ use Rattle.tz_tzif.specs.declared.local_type.LocalType.{LocalType}
 use Rattle.tz_tzif.specs.Types.{HasNearOffset, type_of, same_type, are_alike, merged, transitions_after, distinct, types_of}
 use Rattle.tz_tzif.specs.Designations.{designations_of}
 use Rattle.tz_tzif.specs.File.{file_of, spelling}
-use Rattle.tz_tzif.specs.Meaning.{Means}
+use Rattle.tz_tzif.specs.Meaning.{IsMeaning}
 use Rattle.tz_tzif.proofs.DistinctLemmas.{same_type-Decides}
 use Rattle.tz_tzif.proofs.NearLemmas.{All-at_In, types_near, ranges_near}
 use Rattle.tz_tzif.proofs.PlaceLemmas.{In-distinct, get-position}
@@ -53,7 +53,7 @@ begin_fits zone a b range has =
     let inside = covers_each first_instant end_of_time (expansion_of zone) there.0 range (zone_covers zone) there.1 in
     fits_time range.begin inside.0 (omega (arith, ints, inside.1, inside.2))
 
-pub stretch_means : (zone : CompiledZone) (a b : ℤ) (file : List ℕ) → IsStretch a b → length (types_of (merged (ranges_between zone a b))) ≤ 256 → length (transitions_after a (merged (ranges_between zone a b))) < 2 ^ 32 → All (IsText 0 32) (designations_of (types_of (merged (ranges_between zone a b)))) → file ≡ spelling a (ranges_between zone a b) → (t : ℤ) (range : SysInfo) → a ≤ℤ t → t <ℤ b → range_at (expansion_of zone) t ≡ Some range → (local_type : LocalType) → Means file t local_type ↔ (local_type ≡ type_of range)
+pub stretch_means : (zone : CompiledZone) (a b : ℤ) (file : List ℕ) → IsStretch a b → length (types_of (merged (ranges_between zone a b))) ≤ 256 → length (transitions_after a (merged (ranges_between zone a b))) < 2 ^ 32 → All (IsText 0 32) (designations_of (types_of (merged (ranges_between zone a b)))) → file ≡ spelling a (ranges_between zone a b) → (t : ℤ) (range : SysInfo) → a ≤ℤ t → t <ℤ b → range_at (expansion_of zone) t ≡ Some range → (local_type : LocalType) → IsMeaning file t local_type ↔ (local_type ≡ type_of range)
 stretch_means zone a b file stretch few many texts spelled t range low high found =
     let ranges = ranges_between zone a b in
     let met : Meeting a b (expansion_of zone) = meeting a b first_instant end_of_time (expansion_of zone) (zone_covers zone) stretch.begins (omega (arith, ints, stretch.ordered, stretch.ends)) stretch.ordered in
@@ -74,7 +74,7 @@ stretch_means zone a b file stretch few many texts spelled t range low high foun
     let in_ranges : (x : SysInfo) → In x transitions → In x ranges = λ x has. rw are (inr (changes_back first later x has)) in
     let in_merged : (x : SysInfo) → In x transitions → In x (merged ranges) = λ x has. rw kept (inr has) in
     let fits : (place : ℕ) (x : SysInfo) → slice_get transitions place ≡ Some x → FitsSigned w64 x.begin = λ place x at. begin_fits zone a b x (in_ranges x (In-from_get transitions place x at)) in
-    let said : Means file t (type_of range) = means file transitions types designations is t (type_of first) (type_of range) force fits
+    let said : IsMeaning file t (type_of range) = means file transitions types designations is t (type_of first) (type_of range) force fits
     (ap (λ rs. slice_get (types_of rs) 0) kept ∙ first_type first transitions)
     (λ x has.
     get-position same_type same_type-Decides types (type_of x)

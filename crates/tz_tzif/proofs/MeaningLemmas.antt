@@ -18,7 +18,7 @@ use Rattle.tz_tzif.specs.declared.local_type.LocalType.{LocalType}
 use Rattle.tz_tzif.specs.Types.{type_of, number_in}
 use Rattle.tz_tzif.specs.Designations.{designation_octets, index_in}
 use Rattle.tz_tzif.specs.File.{header, first_block, time_octets, type_octets, file_of}
-use Rattle.tz_tzif.specs.Meaning.{offset_at, time_count, type_count, transition_time, transition_type, type_place, designation_place, type_at, IsLatest, IsTypeNumber, Means}
+use Rattle.tz_tzif.specs.Meaning.{offset_at, time_count, type_count, transition_time, transition_type, type_place, designation_place, type_at, IsLatest, IsTypeNumber, IsMeaning}
 use Rattle.tz_tzif.proofs.DistinctLemmas.{same_fields}
 use Rattle.tz_tzif.proofs.PlaceLemmas.{length_pieces, piece_at, get_at, get-map, get_some, some_within, is_letter, text_before, at_index}
 use Rattle.tz_tzif.proofs.MergedLemmas.{AllAfter, IsLast, HasLast, InForce, Rising, after_at, rising_at}
@@ -109,7 +109,7 @@ one_number file t number other rise is has =
     has)
     is
 
-pub one_meaning : (file : List ℕ) (t : ℤ) (x y : LocalType) → TimesRise file → Means file t x → Means file t y → x ≡ y
+pub one_meaning : (file : List ℕ) (t : ℤ) (x y : LocalType) → TimesRise file → IsMeaning file t x → IsMeaning file t y → x ≡ y
 one_meaning file t x y rise is has =
     sym is.2 ∙ ap (λ number. type_at file number) (one_number file t is.0 has.0 rise is.1 has.1) ∙ has.2
 
@@ -215,7 +215,7 @@ module _ (file : List ℕ) (transitions : List SysInfo) (types : List LocalType)
       (rising_at transitions number other one.0 later.0 rising before one.1 later.1)
 
   -- ---- the whole
-  pub means : (t : ℤ) (first now : LocalType) → InForce t first transitions now → ((place : ℕ) (range : SysInfo) → slice_get transitions place ≡ Some range → FitsSigned w64 range.begin) → slice_get types 0 ≡ Some first → ((range : SysInfo) → In range transitions → slice_get types (number_in types (type_of range)) ≡ Some (type_of range)) → ((number : ℕ) → slice_get types number ≡ Some now → type_at file number ≡ now) → Means file t now
+  pub means : (t : ℤ) (first now : LocalType) → InForce t first transitions now → ((place : ℕ) (range : SysInfo) → slice_get transitions place ≡ Some range → FitsSigned w64 range.begin) → slice_get types 0 ≡ Some first → ((range : SysInfo) → In range transitions → slice_get types (number_in types (type_of range)) ≡ Some (type_of range)) → ((number : ℕ) → slice_get types number ≡ Some now → type_at file number ≡ now) → IsMeaning file t now
   means t first now force fits at_first numbered said =
       ⊎_elim
       (λ (none : AllAfter t transitions × (now ≡ first)). (

@@ -14,8 +14,8 @@ use Rattle.tz_tzif.specs.Refusal.{first_far}
 abbrev pub far_index : List LocalType → Option ℕ
 far_index types = first_far (indices_in (designations_of types) types)
 
--- The file, where the types are few and no index is too far. Too many types are told, and of few ones the first index that
--- is too far: each exactly where it is so, but that memory may run out at any time.
+-- The file, where the types are few and no index is too far. Too many types are told, and of few ones the first index
+-- that is too far: each exactly where it is so, but that memory may run out at any time.
 abbrev pub Answers : ℤ → List SysInfo → Result (Vec ℕ Global) TzifError → Type 0
 Answers a ranges (Ok file) =
     let types = types_of (merged ranges) in

@@ -26,7 +26,8 @@ header counts = codes "TZif2" ++ replicate 15 0 ++ flat_map count_octets counts
 -- a type: its offset, a mark that is 1 where it is daylight saving time, and the index of its designation
 abbrev pub type_octets : List (List ℕ) → LocalType → List ℕ
 type_octets designations local_type =
-    offset_octets local_type.offset ++ (if local_type.is_daylight then 1 else 0) ∷ index_in designations local_type.designation ∷ []
+    offset_octets local_type.offset
+    ++ (if local_type.is_daylight then 1 else 0) ∷ index_in designations local_type.designation ∷ []
 
 -- the block of version 1: a header, and the one type that each block has, with an empty designation
 unfoldable pub first_block : List ℕ

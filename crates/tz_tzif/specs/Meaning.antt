@@ -1,16 +1,16 @@
--- What a file says by the words of RFC 8536, section 3, where its block of version 1 has one type, an empty designation and
--- nothing else.
+-- What a file means by the words of RFC 8536, section 3, where its block of version 1 has one type, an empty
+-- designation and nothing else.
 use Rattle.std.specs.Prelude.{◌≡◌, ℕ, ◌+◌, ◌*◌, ◌==◌, ◌<◌, ◌⊎◌, not, List, take, drop, take_while, slice_index, ℤ, ◌≤ℤ◌, ◌<ℤ◌}
 use Rattle.std.specs.Int.{w32, w64, from_be_bytes, cast_signed}
 use Rattle.tz_tzif.specs.declared.local_type.LocalType.{LocalType}
 
 -- the number in the four octets from a place on, the highest first
-abbrev pub count_at : List ℕ → ℕ → ℕ
-count_at file place = from_be_bytes w32 (take 4 (drop place file))
+abbrev pub unsigned_at : List ℕ → ℕ → ℕ
+unsigned_at file place = from_be_bytes w32 (take 4 (drop place file))
 
 -- the signed number in the four octets from a place on
 abbrev pub offset_at : List ℕ → ℕ → ℤ
-offset_at file place = cast_signed w32 (count_at file place)
+offset_at file place = cast_signed w32 (unsigned_at file place)
 
 -- the signed number in the eight octets from a place on
 abbrev pub time_at : List ℕ → ℕ → ℤ
@@ -34,10 +34,10 @@ data_place = header_place + header_size
 
 -- Of the six counts, that of transitions begins 32 octets after the header does, and that of types 36 octets.
 abbrev pub time_count : List ℕ → ℕ
-time_count file = count_at file (header_place + 32)
+time_count file = unsigned_at file (header_place + 32)
 
 abbrev pub type_count : List ℕ → ℕ
-type_count file = count_at file (header_place + 36)
+type_count file = unsigned_at file (header_place + 36)
 
 -- The data have the times of the transitions, eight octets each,
 abbrev pub transition_time : List ℕ → ℕ → ℤ
@@ -77,6 +77,6 @@ IsTypeNumber file t type_number =
     ((number : ℕ) × IsLatest file t number × (type_number ≡ transition_type file number))
     ⊎ (((number : ℕ) → number < time_count file → t <ℤ transition_time file number) × (type_number ≡ 0))
 
--- at t the file says that this type is in force
-abbrev pub Means : List ℕ → ℤ → LocalType → Type 0
-Means file t local_type = (number : ℕ) × IsTypeNumber file t number × (type_at file number ≡ local_type)
+-- the meaning of the file at t is this type
+abbrev pub IsMeaning : List ℕ → ℤ → LocalType → Type 0
+IsMeaning file t local_type = (number : ℕ) × IsTypeNumber file t number × (type_at file number ≡ local_type)

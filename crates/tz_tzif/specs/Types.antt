@@ -24,7 +24,8 @@ HasNearOffset local_type = IsWithin 172_800 local_type.offset
 -- the two are the same type
 abbrev pub same_type : LocalType → LocalType → Bool
 same_type one other =
-    int_eq one.offset other.offset && beq one.is_daylight other.is_daylight && bytes_eq one.designation other.designation
+    int_eq one.offset other.offset && beq one.is_daylight other.is_daylight
+    && bytes_eq one.designation other.designation
 
 -- the two ranges are of the same type
 abbrev pub are_alike : SysInfo → SysInfo → Bool

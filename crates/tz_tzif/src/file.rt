@@ -12,7 +12,7 @@ ghost use Rattle.tz_tzif.specs.Designations.{designations_of, designation_octets
 ghost use Rattle.tz_tzif.specs.File.{data_octets, file_of, spelling};
 ghost use Rattle.tz_tzif.specs.Refusal.{first_far, TellsFar};
 ghost use Rattle.tz_tzif.specs.Answer.{Answers};
-ghost use Rattle.tz_tzif.specs.Meaning.{Means};
+ghost use Rattle.tz_tzif.specs.Meaning.{IsMeaning};
 
 use crate::designations::{designations_of, octets_of};
 use crate::octets::{put_first_block, put_header, put_numbers, put_times, put_types};
@@ -147,15 +147,16 @@ fn spelling(alloc: Global, mut ranges: Vec<SysInfo>, a: i64) -> Result<Vec<u8>, 
     )
 }
 
-/// The zone as a file of version 2 (RFC 8536), for the stretch from `a` up to but excluding `b`, in seconds from 1970-01-01
-/// 00:00:00. There is one such file, and what it means at an instant of the stretch is the offset, the abbreviation and
-/// whether time is saved there; its type 0 is the one in force at `a`. `Types` comes exactly where there are more than 256
-/// types, and tells how many. `Designations` comes exactly where there are no more, but an index of a designation is above
-/// 255, and tells the first such. Where there are 2^32 transitions or more, it counts as want of memory.
+/// The zone as a file of version 2 (RFC 8536), for the stretch from `a` up to but excluding `b`, in seconds from
+/// 1970-01-01 00:00:00. There is one such file, and its one meaning at an instant of the stretch is the offset, the
+/// abbreviation and whether time is saved there; its type 0 is the one in force at `a`. `Types` comes exactly where there
+/// are more than 256 types, and tells how many. `Designations` comes exactly where there are no more, but an index of a
+/// designation is above 255, and tells the first such. Where there are 2^32 transitions or more, it counts as want of
+/// memory.
 pub fn tzif(alloc: Global, zone: &CompiledZone, a: i64, b: i64) -> Result<Vec<u8>, TzifError>
     requires { IsStretch a b }
     ensures answers { Answers a (ranges_between zone.now a b) result }
-    ensures means { IfOk result (λ file. (t : ℤ) (range : SysInfo) → a ≤ℤ t → t <ℤ b → range_at (expansion_of zone.now) t ≡ Some range → (local_type : LocalType) → Means file.items t local_type ↔ (local_type ≡ type_of range)) }
+    ensures means { IfOk result (λ file. (t : ℤ) (range : SysInfo) → a ≤ℤ t → t <ℤ b → range_at (expansion_of zone.now) t ≡ Some range → (local_type : LocalType) → IsMeaning file.items t local_type ↔ (local_type ≡ type_of range)) }
 {
     let ranges = expand_uncounted::<Brand>(alloc, zone, a, b, Blank::new(1))?;
     spelling(alloc, ranges, a)

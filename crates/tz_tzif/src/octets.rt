@@ -21,8 +21,8 @@ const RESERVED: [u8; 15] = [0; 15];
 /// The data of a block of version 1 with one type, and a designation without letters.
 const NO_DATA: [u8; 7] = [0; 7];
 
-/// A header with six counts: of the indicators of both kinds, of leap seconds, of transitions, of types, and of the octets of
-/// designations.
+/// A header with six counts: of the indicators of both kinds, of leap seconds, of transitions, of types, and of the
+/// octets of designations.
 pub fn put_header(file: &mut Vec<u8>, counts: [u32; 6]) -> Result<(), NoMemory>
     ensures { OnOk result (file.new.items ≡ file.old.items ++ header counts) }
 {

@@ -14,7 +14,8 @@ fn are_alike(one: &SysInfo, other: &SysInfo) -> bool
     one.offset == other.offset && (one.save != 0) == (other.save != 0) && one.abbrev == other.abbrev
 }
 
-/// Makes neighbours of equal type one, which begins where the first of them does. It keeps that one's end, which no file has.
+/// Makes neighbours of equal type one, which begins where the first of them does. It keeps that one's end, which no file
+/// has.
 pub fn merge(ranges: &mut Vec<SysInfo>)
     ensures { ranges.new.items ≡ merged ranges.old.items }
 {

@@ -12,7 +12,7 @@ pub enum TzifError {
     NoMemory,
     /// There are so many types, more than the 256 that octets can number.
     Types { count: u32 },
-    /// A designation begins so many octets after the first, more than the 255 that an octet can tell. It is the first such.
+    /// A designation begins behind so many octets, more than the 255 that an octet can tell. It is the first such.
     Designations { at: u32 },
 }
 

@@ -14,7 +14,7 @@ use Rattle.tz_tzif.specs.declared.local_type.LocalType.{LocalType}
 use Rattle.tz_tzif.specs.Types.{type_of, merged, transitions_after, types_of}
 use Rattle.tz_tzif.specs.Designations.{designations_of}
 use Rattle.tz_tzif.specs.Answer.{Answers}
-use Rattle.tz_tzif.specs.Meaning.{Means}
+use Rattle.tz_tzif.specs.Meaning.{IsMeaning}
 use Rattle.tz_tzif.proofs.NearLemmas.{ranges_near}
 use Rattle.tz_tzif.proofs.FileLemmas.{stretch_means}
 use Rattle.tz_tzif.proofs.file.tzif.Goals as goal
@@ -26,7 +26,7 @@ spelling-requires c =
     let are : c.in_ok-ranges.ranges.items ≡ ranges_between c.args.zone.now c.args.a c.args.b = simp to_z-of_z at c.in_ok-ranges.ensures in
     rw are (ranges_near c.args.zone.now c.args.a c.args.b)
 
-answer_means : (zone : CompiledZone) (a b : ℤ) (ranges : List SysInfo) (answer : Result (Vec ℕ Global) TzifError) → IsStretch a b → ranges ≡ ranges_between zone a b → Answers a ranges answer → OnOk answer (length (transitions_after a (merged ranges)) < 2 ^ 32) → OnOk answer (All (IsText 0 32) (designations_of (types_of (merged ranges)))) → IfOk answer (λ file. (t : ℤ) (range : SysInfo) → a ≤ℤ t → t <ℤ b → range_at (expansion_of zone) t ≡ Some range → (local_type : LocalType) → Means file.items t local_type ↔ (local_type ≡ type_of range))
+answer_means : (zone : CompiledZone) (a b : ℤ) (ranges : List SysInfo) (answer : Result (Vec ℕ Global) TzifError) → IsStretch a b → ranges ≡ ranges_between zone a b → Answers a ranges answer → OnOk answer (length (transitions_after a (merged ranges)) < 2 ^ 32) → OnOk answer (All (IsText 0 32) (designations_of (types_of (merged ranges)))) → IfOk answer (λ file. (t : ℤ) (range : SysInfo) → a ≤ℤ t → t <ℤ b → range_at (expansion_of zone) t ≡ Some range → (local_type : LocalType) → IsMeaning file.items t local_type ↔ (local_type ≡ type_of range))
 answer_means zone a b ranges (Ok file) stretch are answers many texts =
     stretch_means zone a b file.items stretch (rw are at answers.0) (rw are at many) (rw are at texts) (rw are at answers.2)
 answer_means zone a b ranges (Err error) stretch are answers many texts = tt
