@@ -71,7 +71,8 @@ pub record IsLatest (file : List ℕ) (t : ℤ) (number : ℕ) : Type 0 where
   pub come : transition_time file number ≤ℤ t
   pub greatest : (other : ℕ) → other < time_count file → transition_time file other ≤ℤ t → transition_time file other ≤ℤ transition_time file number
 
--- the number of the type at t: that of the greatest transition at or before t, and 0 where there is none
+-- The number of the type at t: that of the greatest transition at or before t, and 0 where there is none. From the last
+-- transition on, which RFC 8536 leaves to the footer, its type holds on, since there is no rule there.
 abbrev pub IsTypeNumber : List ℕ → ℤ → ℕ → Type 0
 IsTypeNumber file t type_number =
     ((number : ℕ) × IsLatest file t number × (type_number ≡ transition_type file number))
