@@ -8,4 +8,5 @@ pub mod Told
 pub mod Between
 pub mod Lines
 pub mod SameZones
+pub mod ZoneOffsets
 pub mod StretchLemmas

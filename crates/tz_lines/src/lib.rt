@@ -31,7 +31,7 @@ mod zone_line;
 
 pub use error::ReadError;
 pub use leap_reading::read_leaps;
-pub use locating::locate;
+pub use locating::{link_place, locate};
 pub use reading::read_zones;
 
 #[cfg(test)]

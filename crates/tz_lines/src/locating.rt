@@ -17,8 +17,9 @@ fn zone_place(zones: &[Zone], name: &[u8]) -> Option<usize>
     }
 }
 
-/// The place of the zone to which the link of that name leads.
-fn link_place(links: &[Link], name: &[u8]) -> Option<u32>
+/// The place of the zone to which the link of that name leads, of links in the order of their names. None comes exactly where no
+/// link has the name.
+pub fn link_place(links: &[Link], name: &[u8]) -> Option<u32>
     requires { IsTrue (ascends name_before (map (λ (link : Link). link.name) links.now)) }
     ensures { result ≡ option_map (λ (link : Link). link.zone) (find (is_link_named name.now) links.now) }
 {

@@ -25,7 +25,7 @@ use Rattle.tz_local.specs.declared.findings.Findings.{Findings}
 use Rattle.tz_local.specs.declared.findings.Findings.TheVariants.{Begun, Told}
 use Rattle.tz_local.specs.Findings.{AreFindings}
 use Rattle.tz_local.proofs.FindingsLemmas.{still_told}
-use Rattle.tz_local.proofs.OffsetLemmas.{offset_near}
+use Rattle.tz_expand.proofs.ZoneOffsets.{offset_near}
 
 pub zone_covers : (zone : CompiledZone) → Covers first_instant end_of_time (expansion_of zone)
 zone_covers zone =

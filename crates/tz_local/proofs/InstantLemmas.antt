@@ -11,7 +11,7 @@ use Rattle.tz_specs.specs.Expansion.{first_instant, end_of_time}
 use Rattle.tz_expand.specs.declared.compiled_zone.CompiledZone.{CompiledZone}
 use Rattle.tz_expand.specs.Zone.{expansion_of}
 use Rattle.tz_local.specs.Choice.{HasNearOffsets, IsNotUnique}
-use Rattle.tz_local.proofs.OffsetLemmas.{offset_near}
+use Rattle.tz_expand.proofs.ZoneOffsets.{offset_near}
 use Rattle.tz_local.proofs.InfoLemmas.{zone_covers}
 
 -- no instant comes exactly where there is no choice and the local time isn't unique

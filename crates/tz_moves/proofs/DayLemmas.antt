@@ -12,7 +12,7 @@ use Rattle.tz_specs.proofs.CoverLemmas.{Covers-append, covers_ordered}
 use Rattle.tz_expand.specs.declared.compiled_zone.CompiledZone.{CompiledZone}
 use Rattle.tz_expand.specs.Zone.{expansion_of}
 use Rattle.tz_local.proofs.InfoLemmas.{zone_covers, found_among, next_head, range_at-past, begun_from, ended_by}
-use Rattle.tz_local.proofs.OffsetLemmas.{offset_near}
+use Rattle.tz_expand.proofs.ZoneOffsets.{offset_near}
 use Rattle.tz_moves.specs.Day.{midnight, seconds_in, day_seconds}
 
 -- ---- what two stretches share

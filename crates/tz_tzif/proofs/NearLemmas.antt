@@ -9,7 +9,7 @@ use Rattle.tz_specs.proofs.ListLemmas.{In, In-from_Contains, Contains-from_In, I
 use Rattle.tz_expand.specs.declared.compiled_zone.CompiledZone.{CompiledZone}
 use Rattle.tz_expand.specs.Zone.{expansion_of}
 use Rattle.tz_expand.specs.Stretch.{meets, ranges_between}
-use Rattle.tz_local.proofs.OffsetLemmas.{offset_near}
+use Rattle.tz_expand.proofs.ZoneOffsets.{offset_near}
 use Rattle.tz_tzif.specs.Types.{distinct, same_type, are_alike, type_of, merged, types_of, HasNearOffset}
 
 pub All-from_In : {X : Type 0} (P : X → Type 0) (xs : List X) → ((x : X) → In x xs → P x) → All P xs

@@ -1,0 +1,3 @@
+pub mod Window
+pub mod Scan
+pub mod Seen

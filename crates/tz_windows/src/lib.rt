@@ -1,0 +1,17 @@
+//! Windows on zones: answers near the last one.
+//!
+//! A window of a zone is a stretch of 2,019,644,928 seconds, 64 mean Gregorian years: 313 of them, the first from -9999-01-01
+//! 00:00:00 on, hold all of time. A zone that is kept has `Cells` beside it, one a window. `ZoneRef` lends the zone with its
+//! cells, answers the range that holds an instant, and goes over many instants in one scan. The crate stands on `info_at` of
+//! `tz_expand`.
+#![tactic(auto)]
+
+mod cells;
+mod laws;
+mod scan;
+mod zone_ref;
+
+pub use cells::{Cells, WINDOWS};
+pub use laws::ranges_of_a_zone_begin_apart;
+pub use scan::Scan;
+pub use zone_ref::ZoneRef;
