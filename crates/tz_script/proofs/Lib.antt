@@ -1,0 +1,2 @@
+pub mod HoldNames
+pub mod WordCuts
