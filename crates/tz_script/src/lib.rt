@@ -16,14 +16,31 @@
 //! the lanes of a round each in the order of its operations.
 #![tactic(auto)]
 
+mod adding;
 mod cause;
+mod error;
+mod gathered;
 mod hold_name;
+mod holds;
 mod keyword;
+mod laws;
+mod line;
+mod lines;
 mod op_reader;
 mod operand;
 mod operation;
+mod reader;
+mod said;
+mod script;
 mod words;
 
 pub use cause::ScriptCause;
+pub use error::ScriptError;
 pub use hold_name::HoldName;
+pub use laws::{
+    at_most_one_script, at_most_one_script_fault, each_script_is_read_or_refused,
+    read_scripts_are_not_refused,
+};
 pub use operation::{Op, Operation, Pick};
+pub use reader::read_script;
+pub use script::Script;

@@ -1,8 +1,9 @@
 //! The operands of operations, each read from the next word of a line.
-ghost use Rattle.std.specs.Prelude.{◌≡◌, ◌≤◌, IfSome, option_map};
+ghost use Rattle.std.specs.Prelude.{◌≡◌, IfSome, option_map};
+ghost use Rattle.std.specs.Int.{IsInRange};
 ghost use Rattle.tz_text.specs.LocalTime.{local_time_of};
 ghost use Rattle.tz_script.specs.Words.{words_of};
-ghost use Rattle.tz_script.specs.Operand.{hold_name_of, pick_of, zone_name_of, signed_of, counted_of, choice_of, conversion_of, lanes_word_of, lane_count_of};
+ghost use Rattle.tz_script.specs.Operand.{hold_name_of, pick_of, zone_name_of, signed_of, counted_of, choice_of, conversion_of, lane_count_of};
 ghost use Rattle.tz_script.specs.FirstWord.{first};
 
 use crate::hold_name::{HoldName, is_front};
@@ -33,9 +34,9 @@ fn zone_name_of(word: &[u8]) -> Option<Label>
 }
 
 /// A number of at most 10 digits, from a number to another.
-fn counted_of(word: &[u8], low: u32, high: u32) -> Option<u32>
+pub fn counted_of(word: &[u8], low: u32, high: u32) -> Option<u32>
     ensures value { result ≡ counted_of low high word.now }
-    ensures bound { IfSome result (λ number. number ≤ high) }
+    ensures bound { IfSome result (IsInRange low high) }
 {
     let number = number(word, 1, 10)?;
     if number < u64::from(low) || number > u64::from(high) {
@@ -83,8 +84,9 @@ fn conversion_of(word: &[u8]) -> Option<Conversion>
 }
 
 /// How many lanes there are: 1 to 16, without leading zeros.
-fn lane_count_of(word: &[u8]) -> Option<u32>
-    ensures { result ≡ lane_count_of word.now }
+pub fn lane_count_of(word: &[u8]) -> Option<u32>
+    ensures value { result ≡ lane_count_of word.now }
+    ensures bound { IfSome result (IsInRange 1 16) }
 {
     match word {
         [b'0', ..] => None,
