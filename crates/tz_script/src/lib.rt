@@ -44,3 +44,6 @@ pub use laws::{
 pub use operation::{Op, Operation, Pick};
 pub use reader::read_script;
 pub use script::Script;
+
+#[cfg(test)]
+mod tests;
