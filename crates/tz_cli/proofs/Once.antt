@@ -22,7 +22,7 @@ use Rattle.tz_output.specs.Conversion.{conversion_word}
 use Rattle.tz_cli.specs.Conversion.{IsConvertible}
 use Rattle.tz_cli.specs.Command.{Command, Info, Local, Dump, Check, Clock, IsCommand}
 use Rattle.tz_cli.specs.Info.{InfoAnswers}
-use Rattle.tz_cli.specs.LocalTime.{local_time_of}
+use Rattle.tz_text.specs.LocalTime.{local_time_of}
 use Rattle.tz_cli.specs.Local.{HasLocalInfo, IsLocalLine, LocalAnswers}
 use Rattle.tz_cli.specs.Dump.{AreAskedFor, IsThere, IsMissing, DumpAnswers, asked_for}
 use Rattle.tz_cli.specs.Check.{CheckAnswers}

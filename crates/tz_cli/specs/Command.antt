@@ -7,7 +7,7 @@ use Rattle.tz_output.specs.Choice.{choice_word}
 use Rattle.tz_output.specs.Conversion.{conversion_word}
 use Rattle.tz_output.specs.declared.choice.Choice.{Choice}
 use Rattle.tz_output.specs.declared.conversion.Conversion.{Conversion}
-use Rattle.tz_cli.specs.LocalTime.{local_time_of}
+use Rattle.tz_text.specs.LocalTime.{local_time_of}
 use Rattle.tz_cli.specs.NamedText.{NamedText, named_text_of, parts_of}
 use Rattle.tz_cli.specs.declared.text_word.TextWord.{TextWord}
 use Rattle.tz_cli.specs.declared.command_line.CommandLine.{CommandLine}

@@ -5,7 +5,6 @@ pub mod Line
 pub mod Text
 pub mod Info
 pub mod Check
-pub mod LocalTime
 pub mod Local
 pub mod NamedZone
 pub mod Dump

@@ -8,14 +8,12 @@
 #![tactic(auto)]
 
 mod check;
-mod civil_word;
 mod clock;
 mod command_line;
 mod dump;
 mod info;
 mod line;
 mod local;
-mod local_time;
 mod named_zone;
 mod output;
 mod printing;

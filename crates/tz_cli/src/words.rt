@@ -5,10 +5,9 @@ ghost use Rattle.tz_output.specs.declared.choice.Choice.{Choice};
 ghost use Rattle.tz_output.specs.declared.conversion.Conversion.{Conversion};
 
 use crate::command_line::CommandLine;
-use crate::local_time::local_time;
 use crate::text_word::TextWord;
 use tz_output::{Choice, Conversion};
-use tz_text::signed_number;
+use tz_text::{local_time, signed_number};
 
 /// `info TEXT ZONE T`.
 fn info(words: &[String]) -> Option<CommandLine<'_>>

@@ -1,8 +1,9 @@
+//! Local times as words name them: a number of seconds, or a civil date and time of day.
 ghost use Rattle.std.specs.Prelude.{◌≡◌};
-ghost use Rattle.tz_cli.specs.LocalTime.{local_time_of};
+ghost use Rattle.tz_text.specs.LocalTime.{local_time_of};
 
 use crate::civil_word::civil_word;
-use tz_text::signed_number;
+use crate::digits::signed_number;
 
 /// The local time that a word names: a number of seconds from 1970-01-01 00:00:00 of the same clock, or a civil date and time
 /// of day.
