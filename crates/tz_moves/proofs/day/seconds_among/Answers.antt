@@ -3,7 +3,6 @@ use Rattle.std.specs.Int.{w64}
 use Rattle.std.proofs.lemmas.Int.{ints, to_z-of_z}
 use Rattle.jiff_core.proofs.SignedLemmas.{signed_arith}
 use Rattle.tz_specs.specs.Expansion.{first_instant}
-use Rattle.tz_specs.proofs.Tests.{int_lt-true, int_lt-false}
 use Rattle.tz_local.proofs.InfoLemmas.{walks_on}
 use Rattle.tz_moves.specs.Day.{IsDay, midnight}
 use Rattle.tz_moves.proofs.DayLemmas.{fits_small, IsSummed, first_summed, next_summed, all_summed, few_summed, end_begun}

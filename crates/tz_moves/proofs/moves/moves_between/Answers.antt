@@ -1,8 +1,7 @@
-use Rattle.std.proofs.Common.{arith, ◌≡◌, ap, subst, ◌∙◌, rules, map, FitsSigned, ℤ, ◌-ℤ◌, pos, List, ◌≤ℤ◌}
+use Rattle.std.proofs.Common.{arith, ◌≡◌, subst, ◌∙◌, rules, map, FitsSigned, ℤ, ◌-ℤ◌, pos, List, ◌≤ℤ◌}
 use Rattle.std.specs.Prelude.{IfOk}
 use Rattle.std.specs.Int.{w64, int_max}
 use Rattle.std.proofs.lemmas.Int.{ints, to_z-of_z}
-use Rattle.tz_types.specs.declared.range.SysInfo.{SysInfo}
 use Rattle.tz_specs.specs.Expansion.{first_instant}
 use Rattle.tz_moves.specs.declared.moves.Move.{Move}
 use Rattle.tz_moves.specs.Moves.{moved_ranges}
