@@ -123,6 +123,13 @@ moves_told zone since from to stretch is =
     since_first : (a f s : ℤ) → f ≤ℤ a → s ≡ int_max a (f -ℤ pos 1) → s ≡ a
     since_first a f s at is = grind (arith, ints)
 
+-- the same of the ranges that were made
+pub made_told : (zone : CompiledZone) (since from end to : ℤ) (made : List SysInfo) → made ≡ ranges_between zone since end → since ≡ int_max first_instant (from -ℤ pos 1) → end ≡ to → IsStretch from to → map move_to (moved_ranges made) ≡ moves_between zone from to
+made_told zone since from end to made is begins ends stretch =
+    ap (λ (ranges : List SysInfo). map move_to (moved_ranges ranges)) is
+    ∙ ap (λ (last : ℤ). map move_to (moved_ranges (ranges_between zone since last))) ends
+    ∙ moves_told zone since from to stretch begins
+
 -- ---- the ranges one after another
 pub pushed : (ranges : List SysInfo) (place : ℕ) (before range : SysInfo) (old new total : List Move) → place + 1 < length ranges → before ≡ get_or ranges place before → range ≡ get_or ranges (place + 1) range → old ++ map move_to (moved_ranges (drop place ranges)) ≡ total → ((later : List SysInfo) → new ++ map move_to (moved_after range later) ≡ old ++ map move_to (moved_after before (range ∷ later))) → new ++ map move_to (moved_ranges (drop (place + 1) ranges)) ≡ total
 pushed ranges place before range old new total within before_is range_is so_far push =

@@ -116,9 +116,10 @@ none_left t seen range covered begun =
     let ended : other.end ≤ℤ range.begin = ended_by first_instant range.begin seen other covered has in
     le-int_lt t other.end (omega (arith, ints)))
 
-pub begin_onward : (zone : CompiledZone) (t : ℤ) (range : SysInfo) (old now each : ℕ) → range_at (expansion_of zone) t ≡ Some range → now ≤ old + each → IsOnward zone t range old now each
-begin_onward zone t range old now each found step =
-    let among = found_among first_instant end_of_time t (expansion_of zone) range (zone_covers zone) found in
+-- the walk begins with a range that is found at some instant, and has t
+pub begin_onward : (zone : CompiledZone) (t found_at : ℤ) (range : SysInfo) (old now each : ℕ) → range_at (expansion_of zone) found_at ≡ Some range → range.begin ≤ℤ t → t <ℤ range.end → now ≤ old + each → IsOnward zone t range old now each
+begin_onward zone t found_at range old now each found begun ends step =
+    let among = found_among first_instant end_of_time found_at (expansion_of zone) range (zone_covers zone) found in
     record {
       seen = among.before;
       ahead = among.later;
@@ -127,12 +128,11 @@ begin_onward zone t range old now each found step =
       takes = among.takes;
       covers = among.covers;
       passed = λ moved has.
-          let begun : moved.begin ≤ℤ range.begin = through_begun first_instant among.before range moved among.covered (In-moved (among.before ++ range ∷ []) moved has) in
-          let here : range.begin ≤ℤ t = among.begun in
+          let by : moved.begin ≤ℤ range.begin = through_begun first_instant among.before range moved among.covered (In-moved (among.before ++ range ∷ []) moved has) in
           omega (arith, ints);
-      not_ended = among.ends;
+      not_ended = ends;
       few = few_more old old now each 0 (length (filter (ends_after t) (among.before ++ range ∷ []))) (omega arith) step
-          (one_more t among.before range among.ends ∙ ap (λ (n : ℕ). n + 1) (ap length (none_left t among.before range among.covered among.begun)));
+          (one_more t among.before range ends ∙ ap (λ (n : ℕ). n + 1) (ap length (none_left t among.before range among.covered begun)));
     }
 
 -- the next range stands right ahead
@@ -288,9 +288,10 @@ none_begun t range ahead covers ends =
     let later : range.end ≤ℤ other.begin = begun_from range.end end_of_time ahead other covers has in
     le-int_lt other.begin (t +ℤ pos 1) (omega (arith, ints)))
 
-pub begin_backward : (zone : CompiledZone) (t : ℤ) (range : SysInfo) (old now each : ℕ) → range_at (expansion_of zone) t ≡ Some range → now ≤ old + each → IsBackward zone t range old now each
-begin_backward zone t range old now each found step =
-    let among = found_among first_instant end_of_time t (expansion_of zone) range (zone_covers zone) found in
+-- the walk begins with a range that is found at some instant, and has t
+pub begin_backward : (zone : CompiledZone) (t found_at : ℤ) (range : SysInfo) (old now each : ℕ) → range_at (expansion_of zone) found_at ≡ Some range → range.begin ≤ℤ t → t <ℤ range.end → now ≤ old + each → IsBackward zone t range old now each
+begin_backward zone t found_at range old now each found begun ends step =
+    let among = found_among first_instant end_of_time found_at (expansion_of zone) range (zone_covers zone) found in
     record {
       seen = among.before;
       ahead = among.later;
@@ -300,11 +301,10 @@ begin_backward zone t range old now each found step =
       covers = among.covers;
       to_come = λ moved has.
           let later : range.end ≤ℤ moved.begin = begun_from range.end end_of_time among.later moved among.covers (In-moved_after range among.later moved has) in
-          let ends : t <ℤ range.end = among.ends in
           omega (arith, ints);
-      begun = among.begun;
+      begun = begun;
       few = few_more old old now each 0 (length (filter (begins_before (t +ℤ pos 1)) (range ∷ among.later))) (omega arith) step
-          (one_before t range among.later among.begun ∙ ap (λ (n : ℕ). n + 1) (ap length (none_begun t range among.later among.covers among.ends)));
+          (one_before t range among.later begun ∙ ap (λ (n : ℕ). n + 1) (ap length (none_begun t range among.later among.covers ends)));
     }
 
 range_at-first : (t : ℤ) (range : SysInfo) (later : List SysInfo) → holds_instant t range ≡ true → range_at (range ∷ later) t ≡ Some range

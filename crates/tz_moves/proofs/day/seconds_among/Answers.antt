@@ -3,7 +3,6 @@ use Rattle.std.specs.Int.{w64}
 use Rattle.std.proofs.lemmas.Int.{ints, to_z-of_z}
 use Rattle.jiff_core.proofs.SignedLemmas.{signed_arith}
 use Rattle.tz_specs.specs.Expansion.{first_instant}
-use Rattle.tz_specs.proofs.Tests.{int_lt-true, int_lt-false}
 use Rattle.tz_local.proofs.InfoLemmas.{walks_on}
 use Rattle.tz_moves.specs.Day.{IsDay, midnight}
 use Rattle.tz_moves.proofs.DayLemmas.{fits_small, IsSummed, first_summed, next_summed, all_summed, few_summed, end_begun}
@@ -64,7 +63,8 @@ loop-range-smaller g c =
     let midnight_in : FitsSigned w64 ((day +ℤ pos 1) *ℤ pos 86_400) = midnight_next_fits day inside in
     let after_in : FitsSigned w64 ((day +ℤ pos 1) *ℤ pos 86_400 +ℤ pos 172_800) = after_fits day inside in
     let later : c.loop-range.range.end <ℤ c.range_at-range-in-loop-range.result.end = omega (arith, ints, c.range_at-range-in-loop-range.ensures.holds) in
-    let below : c.loop-range.range.end <ℤ (midnight (day +ℤ pos 1) +ℤ pos 172_800) = int_lt-true c.loop-range.range.end (midnight (day +ℤ pos 1) +ℤ pos 172_800) (simp to_z-of_z at c.loop-range-test.true) in
+    let goes_on = simp to_z-of_z at c.loop-range-test.true in
+    let below : c.loop-range.range.end <ℤ (midnight (day +ℤ pos 1) +ℤ pos 172_800) = omega (arith, ints, signed_arith, goes_on) in
     let smaller = walks_on c.loop-range.range.end c.range_at-range-in-loop-range.result.end (midnight (day +ℤ pos 1) +ℤ pos 172_800) later below in
     simp to_z-of_z smaller
 
@@ -96,7 +96,8 @@ returns-clause-value g c =
     let midnight_in : FitsSigned w64 ((day +ℤ pos 1) *ℤ pos 86_400) = midnight_next_fits day inside in
     let after_in : FitsSigned w64 ((day +ℤ pos 1) *ℤ pos 86_400 +ℤ pos 172_800) = after_fits day inside in
     let walk : IsSummed c.args.zone.now day c.loop-range.range.end seconds = simp to_z-of_z at c.loop-range.invariant in
-    let past : (midnight (day +ℤ pos 1) +ℤ pos 172_800) ≤ℤ c.loop-range.range.end = int_lt-false c.loop-range.range.end (midnight (day +ℤ pos 1) +ℤ pos 172_800) (simp to_z-of_z at c.loop-range-test.false) in
+    let stopped = simp to_z-of_z at c.loop-range-test.false in
+    let past : (midnight (day +ℤ pos 1) +ℤ pos 172_800) ≤ℤ c.loop-range.range.end = omega (arith, ints, signed_arith, stopped) in
     all_summed c.args.zone.now day c.loop-range.range.end seconds walk past
 
 pub returns-clause-bound : goal.returns-clause-bound

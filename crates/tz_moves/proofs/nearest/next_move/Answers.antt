@@ -1,4 +1,4 @@
-use Rattle.std.proofs.Common.{◌≡◌, ◌+◌, ◌*◌, ◌≤ℤ◌, rules, arith, true, false, FitsSigned, refl}
+use Rattle.std.proofs.Common.{◌≡◌, ◌+◌, ◌*◌, ◌≤ℤ◌, ◌<ℤ◌, rules, arith, true, false, FitsSigned, refl}
 use Rattle.std.specs.Int.{w64}
 use Rattle.std.proofs.lemmas.Int.{ints, to_z-of_z}
 use Rattle.tz_specs.specs.Expansion.{end_of_time}
@@ -13,8 +13,9 @@ pub loop-before-init : goal.loop-before-init
 loop-before-init g c =
     let t_fits : FitsSigned w64 c.args.t = c.ranges.t in
     let rules = most_rules_followed (periods c.args.zone.now.lines) in
-    let found = simp to_z-of_z at c.range_at-before.ensures.range in
-    let walk = begin_onward c.args.zone.now c.args.t c.range_at-before.result c.args.steps.now c.range_at-before.new.steps (16 * (rules * (rules + 2))) found c.range_at-before.ensures.steps in
+    let begun : c.range_at-before.result.begin ≤ℤ c.args.t = omega (arith, ints, c.range_at-before.ensures.holds) in
+    let ends : c.args.t <ℤ c.range_at-before.result.end = omega (arith, ints, c.range_at-before.ensures.holds) in
+    let walk = begin_onward c.args.zone.now c.args.t _ c.range_at-before.result c.args.steps.now c.range_at-before.new.steps (16 * (rules * (rules + 2))) c.range_at-before.ensures.range begun ends c.range_at-before.ensures.steps in
     rw to_z-of_z walk
 
 pub loop-before-preserved : goal.loop-before-preserved

@@ -13,8 +13,9 @@ pub loop-range-init : goal.loop-range-init
 loop-range-init g c =
     let t_fits : FitsSigned w64 c.args.t = c.ranges.t in
     let rules = most_rules_followed (periods c.args.zone.now.lines) in
-    let found = simp to_z-of_z at c.range_at-range.ensures.range in
-    let walk = begin_backward c.args.zone.now c.args.t c.range_at-range.result c.args.steps.now c.range_at-range.new.steps (16 * (rules * (rules + 2))) found c.range_at-range.ensures.steps in
+    let begun : c.range_at-range.result.begin ≤ℤ c.args.t = omega (arith, ints, c.range_at-range.ensures.holds) in
+    let ends : c.args.t <ℤ c.range_at-range.result.end = omega (arith, ints, c.range_at-range.ensures.holds) in
+    let walk = begin_backward c.args.zone.now c.args.t _ c.range_at-range.result c.args.steps.now c.range_at-range.new.steps (16 * (rules * (rules + 2))) c.range_at-range.ensures.range begun ends c.range_at-range.ensures.steps in
     rw to_z-of_z walk
 
 before_fits_too : (begin : ℤ) → FitsSigned w64 begin → first_instant <ℤ begin → FitsSigned w64 (begin -ℤ pos 1)
