@@ -1,5 +1,5 @@
 -- What is due at a status, and which status is.
-use Rattle.std.proofs.Common.{◌≡◌, ℕ, ◌<◌, List, ◌⊎◌, inl, inr, Option, refl, sym, subst, arith, ◌∙◌}
+use Rattle.std.proofs.Common.{◌≡◌, ℕ, ◌<◌, List, ◌⊎◌, inl, inr, Option, refl, sym, subst, arith}
 use Rattle.std.specs.List.{AllZip, Any}
 use Rattle.tz_types.specs.Limit.{most_bytes}
 use Rattle.tz_types.specs.Source.{bytes_together}

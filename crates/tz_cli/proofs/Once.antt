@@ -1,22 +1,21 @@
 -- Words are those of one command at most, and a command has one status over contents: the reasons exclude each other.
-use Rattle.std.proofs.Common.{◌≡◌, ℕ, nat_eq, ◌<◌, ◌≤◌, ◌⊎◌, inl, inr, List, [], ◌∷◌, length, codes, Option, Some, None, find, slice_get, Ok, Err, refl, sym, ap, ◌∙◌, subst, arith, ℤ}
+use Rattle.std.proofs.Common.{◌≡◌, ℕ, nat_eq, ◌<◌, ◌≤◌, ◌⊎◌, inl, inr, List, [], ◌∷◌, length, codes, Option, Some, None, find, slice_get, refl, sym, ap, ◌∙◌, subst, arith, ℤ}
 use mathlib.Core.HLevel.{is_prop→PathP}
 use Rattle.std.proofs.Props.{props}
 use Rattle.std.specs.Cmp.Lexicographic.{pointwise}
 use Rattle.std.specs.List.{concat}
 use Rattle.tz_types.specs.Limit.{most_bytes, most_files}
 use Rattle.tz_types.specs.Source.{bytes_together}
-use Rattle.tz_types.specs.declared.fault.Fault.{Fault}
 use Rattle.tz_types.specs.declared.leaps.Leaps.{Leaps}
 use Rattle.tz_types.specs.declared.range.LocalInfo.{LocalInfo}
 use Rattle.tz_types.specs.declared.zone.Zone.{Zone}
 use Rattle.tz_types.specs.declared.source.Source.{Source}
 use Rattle.tz_types.specs.declared.database.Db.{Db}
 use Rattle.tz_specs.specs.Expansion.{periods_of, full_expansion}
-use Rattle.tz_specs.specs.Local.{local_info, chosen_instant}
+use Rattle.tz_specs.specs.Local.{local_info}
 use Rattle.tz_specs.specs.Reads.{Reads}
 use Rattle.tz_specs.specs.Number.{signed_number_of}
-use Rattle.tz_specs.specs.LeapText.{ReadsLeaps, RefusesLeaps}
+use Rattle.tz_specs.specs.LeapText.{ReadsLeaps}
 use Rattle.tz_output.specs.Choice.{choice_word}
 use Rattle.tz_output.specs.Conversion.{conversion_word}
 use Rattle.tz_cli.specs.Conversion.{IsConvertible}
@@ -24,7 +23,7 @@ use Rattle.tz_cli.specs.Command.{Command, Info, Local, Dump, Check, Clock, IsCom
 use Rattle.tz_cli.specs.Info.{InfoAnswers}
 use Rattle.tz_text.specs.LocalTime.{local_time_of}
 use Rattle.tz_cli.specs.Local.{HasLocalInfo, IsLocalLine, LocalAnswers}
-use Rattle.tz_cli.specs.Dump.{AreAskedFor, IsThere, IsMissing, DumpAnswers, asked_for}
+use Rattle.tz_cli.specs.Dump.{IsThere, IsMissing, DumpAnswers, asked_for}
 use Rattle.tz_cli.specs.Check.{CheckAnswers}
 use Rattle.tz_cli.specs.Clock.{ClockAnswers}
 use Rattle.tz_cli.specs.NamedText.{NamedText, named_text_of, IsSourceOf}

@@ -1,6 +1,5 @@
 use Rattle.std.proofs.Common.{◌≡◌, length, Ok, Err, ap, ◌∙◌, rules, FitsSigned, arith}
 use Rattle.std.specs.Int.{w64}
-use Rattle.std.specs.List.{concat}
 use Rattle.std.proofs.lemmas.Int.{to_z-of_z}
 use Rattle.tz_types.specs.Source.{bytes_together}
 use Rattle.tz_cli.specs.Command.{named}
