@@ -18,8 +18,8 @@ use Rattle.tz_cli.specs.declared.status.Status.TheVariants as statuses
 abbrev pub OfSource : NamedText → List (List ℕ) → (Source → Type 0) → Type 0
 OfSource text contents holds = (source : Source) × IsSourceOf text contents source × holds source
 
--- The statuses of a command over contents that aren't too large, each with its line and its reason. The leap text of `clock`
--- is what its file has, and no bytes where it has none.
+-- The statuses of a command over contents that aren't too large, each with its line and its reason. The leap text of
+-- `clock` is what its file has, and no bytes where it has none.
 abbrev pub TextAnswers : Command → List (List ℕ) → Status → List ℕ → Type 0
 TextAnswers (Info text zone instant) contents status line =
     OfSource text contents (λ source. InfoAnswers source zone instant status line)

@@ -33,8 +33,8 @@ dump_text db from to zones = flat_map (zone_text db from to) zones
 abbrev pub asked_for : List ℕ → Option (List ℕ)
 asked_for word = if pointwise nat_eq word (codes "-") then None else Some word
 
--- The zones that are asked for: the one of the name, or else all, in the order of their names. A link's name stands for its
--- zone.
+-- The zones that are asked for: the one of the name, or else all, in the order of their names. A link's name stands for
+-- its zone.
 abbrev pub AreAskedFor : Db → Option (List ℕ) → List Zone → Type 0
 AreAskedFor db None zones = zones ≡ db.zones
 AreAskedFor db (Some name) zones =

@@ -17,8 +17,8 @@ compiled_text from to zone = zone_lines zone.name (ranges_between zone from to)
 abbrev pub compiled_texts : ℤ → ℤ → List CompiledZone → List ℕ
 compiled_texts from to zones = flat_map (compiled_text from to) zones
 
--- Why a text stopped, by what was taken before and now, and by the counts of faults and stalls: memory ran out, when a first
--- part was taken whole and no count had risen; or a write failed or stalled, and a part was taken.
+-- Why a text stopped, by what was taken before and now, and by the counts of faults and stalls: memory ran out, when a
+-- first part was taken whole and no count had risen; or a write failed or stalled, and a part was taken.
 abbrev pub IsStopped : Stop → ℕ × ℕ → ℕ × ℕ → Option (List ℕ) → Option (List ℕ) → List ℕ → Type 0
 IsStopped stops.Memory before now had has text =
     (now ≡ before) × (count : ℕ) × Appends had has (take count text)

@@ -47,8 +47,8 @@ abbrev pub in_file : ℕ → List ℕ
 in_file zero = []
 in_file (suc file) = codes " in " ++ decimal (suc file)
 
--- a word, then `LINE CAUSE`, and ` in F` where there are several files: the line at which a text is refused, the number of the
--- cause, and the file's number
+-- a word, then `LINE CAUSE`, and ` in F` where there are several files: the line at which a text is refused, the number
+-- of the cause, and the file's number
 unfoldable pub fault_line : List ℕ → Fault → List ℕ
 fault_line word fault =
     word ++ codes " " ++ decimal fault.line ++ codes " " ++ decimal fault.cause ++ in_file fault.file ++ codes "\n"

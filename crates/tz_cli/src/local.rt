@@ -31,7 +31,8 @@ fn info_line(alloc: Global, zone: &CompiledZone, l: i64) -> Result<Vec<u8>, Refu
     }
 }
 
-/// The instant of a local time in the zone, or what there is to know of the time where that takes a choice and there is none.
+/// The instant of a local time in the zone, or what there is to know of the time where that takes a choice and there is
+/// none.
 fn instant(
     alloc: Global,
     zone: &CompiledZone,

@@ -39,8 +39,8 @@ fn read_file<F: Files>(
     Ok(content)
 }
 
-/// The contents of files whose names have commas between, where they aren't too large together. Each file is read with the limit
-/// that the earlier ones leave.
+/// The contents of files whose names have commas between, where they aren't too large together. Each file is read with
+/// the limit that the earlier ones leave.
 fn read_files<F: Files>(alloc: Global, names: &str, files: &mut F) -> Result<Items<Text>, Refusal>
     ensures contents { IfOk result (λ contents. MayReadAll (F.told files.old) (parts_of names.now) contents) }
     ensures short { IfOk result (λ contents. bytes_together contents ≤ most_bytes) }

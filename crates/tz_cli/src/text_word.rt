@@ -1,7 +1,8 @@
 //! Words that name the files of a text.
 //!
-//! A word is a list of parts with commas between. Where it begins with `=`, what follows that in the first part is the version of
-//! the text; every other part is the name of a file. A name with a comma can't be given, nor one that begins with `=` as the first.
+//! A word is a list of parts with commas between. Where it begins with `=`, what follows that in the first part is the
+//! version of the text; every other part is the name of a file. A name with a comma can't be given, nor one that begins
+//! with `=` as the first.
 ghost use Rattle.std.specs.Prelude.{◌≡◌, ◌<◌, ◌∷◌, length, IfSome, IsTrue, option_map};
 ghost use Rattle.tz_specs.specs.Reads.{is_version};
 ghost use Rattle.tz_cli.specs.NamedText.{parts_of, parts_left, are_file_names, may_be_given};

@@ -129,10 +129,10 @@ fn run_command<F: Files, S: Sink>(
     }
 }
 
-/// Does a whole command, `info`, `local`, `dump`, `check` or `clock`, and answers its status. It prints the text of the command
-/// at `Ok`, what there is to know of the local time at `Local`, and else the line of the refusal. At `Write` a part of that was
-/// taken. `dump` prints what it has made before it makes the rest, so where memory runs out on the way its line stands behind a
-/// first part of the text.
+/// Does a whole command, `info`, `local`, `dump`, `check` or `clock`, and answers its status. It prints the text of the
+/// command at `Ok`, what there is to know of the local time at `Local`, and else the line of the refusal. At `Write` a
+/// part of that was taken. `dump` prints what it has made before it makes the rest, so where memory runs out on the way
+/// its line stands behind a first part of the text.
 pub fn run_plain<F: Files, S: Sink>(
     rt: &(impl Threads + Sync),
     alloc: Global,

@@ -24,8 +24,8 @@ struct Neighbours {
     count: u32,
 }
 
-/// The zones that a word asks for: all for `-`, and else the one of that name. None comes exactly where no zone and no link
-/// has the name.
+/// The zones that a word asks for: all for `-`, and else the one of that name. None comes exactly where no zone and no
+/// link has the name.
 fn zones_asked_for(db: &Db, word: &[u8]) -> Option<Neighbours>
     requires { IsTrue (is_sound db.now) }
     ensures are { IfSome result (λ some. AreAskedFor db.now (asked_for word.now) (take some.count (drop some.first db.now.zones))) }
