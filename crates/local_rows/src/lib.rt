@@ -1,5 +1,9 @@
-//! Local times and zoned times of zones that are read from texts, with ample memory.
+//! Local times, zoned times, moves and days of zones that are read from texts, with ample memory.
 #![tactic(auto)]
 
 #[cfg(test)]
+mod moves;
+#[cfg(test)]
 mod tests;
+#[cfg(test)]
+mod zone;

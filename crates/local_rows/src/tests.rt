@@ -1,11 +1,10 @@
 //! The local times are worked out by hand from the lines of the zones: at which instants each clock shows them.
-use std::alloc::Global;
+use crate::zone::zone_of;
 use std::process::Abort;
 use std::test::Fail;
-use tz_expand::{CompiledZone, compile};
-use tz_lines::read_zones;
+use tz_expand::CompiledZone;
 use tz_local::{OutOfRange, ToSysError, local_info, to_sys};
-use tz_types::{Choose, FIRST_INSTANT, LocalInfo, NoMemory, Source};
+use tz_types::{Choose, FIRST_INSTANT, LocalInfo};
 use tz_zoned::ZonedTime;
 
 /// New York's first line, and its changes of 2023 and 2024 as lines of their own.
@@ -61,21 +60,6 @@ impl Shown {
             LocalInfo::Ambiguous { first, second } => Shown::Ambiguous(first.begin, second.begin),
         }
     }
-}
-
-/// The one zone of a text, ready for questions.
-fn zone_of(alloc: Global, text: &[u8]) -> Result<Option<CompiledZone>, NoMemory> {
-    if text.len() > 4_194_304 {
-        return Ok(None);
-    }
-    let source = Source::of_text(alloc, text.to_vec(alloc)?)?;
-    let Ok(db) = read_zones(alloc, &source) else {
-        return Ok(None);
-    };
-    if db.zones.is_empty() {
-        return Ok(None);
-    }
-    Ok(Some(compile(alloc, &db, 0)?))
 }
 
 /// What a local time gives without a choice: an instant, or else which ranges show it.

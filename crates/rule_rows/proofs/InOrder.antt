@@ -8,7 +8,7 @@ use Rattle.tz_types.specs.declared.rule.Rule.{Rule}
 use Rattle.tz_types.specs.declared.rule_set.RuleSet.{RuleSet}
 use Rattle.tz_specs.specs.Occurrence.{Occurrence, rule_years, is_year_of, occurrences_of_rule, precedes, put_in_order, in_order, occurrences}
 use Rattle.tz_specs.proofs.Tests.{by_test}
-use Rattle.rule_rows.specs.Listing.{put_all, in_year}
+use Rattle.rule_rows.specs.Listing.{put_all, occurrence_in}
 
 -- ---- where an occurrence is put
 put-before : (x y : Occurrence) (later : List Occurrence) → precedes x y ≡ true → put_in_order x (y ∷ later) ≡ x ∷ y ∷ later
@@ -53,7 +53,7 @@ abbrev pub occurrences_from : Rule → ℕ → ℕ → List Occurrence
 occurrences_from rule first count =
     map (λ year. record { rule = rule; year = year }) (filter (is_year_of rule) (map year_number (range_with_len first count)))
 
-one_before : (rule : Rule) (first count : ℕ) (list : List Occurrence) → put_all (in_year rule (year_number first)) (put_all (occurrences_from rule (first + 1) count) list) ≡ put_all (occurrences_from rule first (suc count)) list
+one_before : (rule : Rule) (first count : ℕ) (list : List Occurrence) → put_all (occurrence_in rule (year_number first)) (put_all (occurrences_from rule (first + 1) count) list) ≡ put_all (occurrences_from rule first (suc count)) list
 one_before rule first count list =
     by_test (is_year_of rule (year_number first)) (λ (h : is_year_of rule (year_number first) ≡ true). rw h refl) (λ (h : is_year_of rule (year_number first) ≡ false). rw h refl)
 
@@ -61,15 +61,15 @@ one_before rule first count list =
 abbrev pub Puts : Rule → ℕ → ℕ → List Occurrence → List Occurrence → Type 0
 Puts rule first count before list = put_all (occurrences_from rule first count) before ≡ list
 
-puts_more : (rule : Rule) (first next count more : ℕ) (before list after : List Occurrence) → next ≡ first + 1 → more ≡ suc count → Puts rule next count before list → after ≡ put_all (in_year rule (year_number first)) list → Puts rule first more before after
+puts_more : (rule : Rule) (first next count more : ℕ) (before list after : List Occurrence) → next ≡ first + 1 → more ≡ suc count → Puts rule next count before list → after ≡ put_all (occurrence_in rule (year_number first)) list → Puts rule first more before after
 puts_more rule first next count more before list after follows counts so_far put =
     let here : Puts rule (first + 1) count before list = rw follows at so_far in
     rw (counts, put, ← here) (sym (one_before rule first count before))
 
-pub year_back : (all count : ℕ) (rule : Rule) (year : ℤ) (before list after : List Occurrence) → all ≡ 19_997 → count < all → year ≡ (pos 9998 -ℤ pos count) → Puts rule (all - count) count before list → after ≡ put_all (in_year rule year) list → Puts rule (all - (count + 1)) (count + 1) before after
+pub year_back : (all count : ℕ) (rule : Rule) (year : ℤ) (before list after : List Occurrence) → all ≡ 19_997 → count < all → year ≡ (pos 9998 -ℤ pos count) → Puts rule (all - count) count before list → after ≡ put_all (occurrence_in rule year) list → Puts rule (all - (count + 1)) (count + 1) before after
 year_back all count rule year before list after is low year_is so_far put =
     let same : year_number (all - (count + 1)) ≡ year = omega (arith, ints) in
-    puts_more rule (all - (count + 1)) (all - count) count (count + 1) before list after (omega arith) (omega arith) so_far (put ∙ ap (λ (y : ℤ). put_all (in_year rule y) list) (sym same))
+    puts_more rule (all - (count + 1)) (all - count) count (count + 1) before list after (omega arith) (omega arith) so_far (put ∙ ap (λ (y : ℤ). put_all (occurrence_in rule y) list) (sym same))
 
 all_years_from_zero : (all : ℕ) (rule : Rule) (before list : List Occurrence) → all ≡ 19_997 → Puts rule 0 all before list → list ≡ put_all (occurrences_of_rule rule) before
 unfolding rule_years

@@ -9,5 +9,5 @@ put_all [] list = list
 put_all (occurrence ∷ others) list = put_in_order occurrence (put_all others list)
 
 -- the rule's occurrence in the year, if it is one of its years
-abbrev pub in_year : Rule → ℤ → List Occurrence
-in_year rule year = if is_year_of rule year then record { rule = rule; year = year } ∷ [] else []
+abbrev pub occurrence_in : Rule → ℤ → List Occurrence
+occurrence_in rule year = if is_year_of rule year then record { rule = rule; year = year } ∷ [] else []

@@ -3,7 +3,7 @@ ghost use Rattle.std.specs.Prelude.{◌≡◌, ◌≤◌, length, IfOk, OnOk};
 ghost use Rattle.std.specs.List.{insert};
 ghost use Rattle.tz_types.specs.Year.{IsRuleYear};
 ghost use Rattle.tz_specs.specs.Occurrence.{occurrences_of_rule, put_in_order, occurrences};
-ghost use Rattle.rule_rows.specs.Listing.{put_all, in_year};
+ghost use Rattle.rule_rows.specs.Listing.{put_all, occurrence_in};
 
 use crate::rule_year::RuleYear;
 use std::alloc::Global;
@@ -28,7 +28,7 @@ fn place_among<'a>(list: &[RuleYear<'a>], occurrence: &RuleYear<'a>) -> usize
 /// Puts the rule's occurrence in a year in its place, if the rule has one then.
 fn put_year<'a>(list: &mut Vec<RuleYear<'a>>, rule: &'a Rule, year: i32) -> Result<(), NoMemory>
     requires { IsRuleYear year }
-    ensures { OnOk result (list.new.items ≡ put_all (in_year rule.now year) list.old.items) }
+    ensures { OnOk result (list.new.items ≡ put_all (occurrence_in rule.now year) list.old.items) }
 {
     if year < rule.from || year > rule.to {
         return Ok(());

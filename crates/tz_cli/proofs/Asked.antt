@@ -1,12 +1,13 @@
 -- What a dump is asked for, and whether it is there.
-use Rattle.std.proofs.Common.{◌≡◌, ℕ, ◌+◌, ◌<◌, ◌≤◌, inl, inr, List, [], ◌∷◌, length, get_or, take, drop, slice_get, Option, Some, None, ℤ, IsTrue, refl, sym, ap, ◌∙◌, length-drop, add-zero, arith}
+use Rattle.std.proofs.Common.{◌≡◌, ℕ, ◌+◌, ◌<◌, inl, inr, List, [], ◌∷◌, length, get_or, take, drop, Option, Some, None, ℤ, refl, sym, ◌∙◌, length-drop, add-zero, arith}
 use Rattle.std.proofs.lemmas.Option.{slice_get_cases, get_or_from_slice_get}
 use Rattle.std.proofs.lemmas.List.{take_more, get_or-drop}
 use Rattle.tz_types.specs.declared.zone.Zone.{Zone}
+use Rattle.tz_types.specs.declared.source.Source.{Source}
 use Rattle.tz_types.specs.declared.database.Db.{Db}
 use Rattle.tz_specs.specs.Reads.{Reads}
 use Rattle.tz_lines.specs.Locate.{located}
-use Rattle.tz_cli.specs.Dump.{AreAskedFor, IsThere, IsMissing, IsDumped, IsOutOfDump, IsDump, dump_text}
+use Rattle.tz_cli.specs.Dump.{AreAskedFor, IsThere, IsMissing, IsDumped, IsOutOfDump}
 
 -- the one zone at a place
 pub one_asked : (db : Db) (name : List ℕ) (place : ℕ) → located db name ≡ Some place → place < length db.zones → AreAskedFor db (Some name) (take 1 (drop place db.zones))
@@ -21,14 +22,14 @@ one_asked db name place named low =
     ]
 
 -- a name that isn't there
-pub missing : (text name : List ℕ) (asked : Option (List ℕ)) (db : Db) → asked ≡ Some name → Reads text db → located db name ≡ None → IsMissing text asked
-missing text name asked db is reads none = rw is (record { db = db; reads = reads; none = none })
+pub missing : (source : Source) (name : List ℕ) (asked : Option (List ℕ)) (db : Db) → asked ≡ Some name → Reads source db → located db name ≡ None → IsMissing source asked
+missing source name asked db is reads none = rw is (record { db = db; reads = reads; none = none })
 
 -- zones that were found are there
 pub asked_there : (db : Db) (asked : Option (List ℕ)) (zones : List Zone) → AreAskedFor db asked zones → IsThere db asked
 asked_there db None zones are = tt
 asked_there db (Some name) zones are = rw are.2 refl
 
-pub out_of_dump : (text : List ℕ) (from to : ℤ) (asked : Option (List ℕ)) (db : Db) (zones : List Zone) → Reads text db → AreAskedFor db asked zones → (IsDumped asked from to → ⊥) → IsOutOfDump text from to asked
-out_of_dump text from to asked db zones reads are outside =
+pub out_of_dump : (source : Source) (from to : ℤ) (asked : Option (List ℕ)) (db : Db) (zones : List Zone) → Reads source db → AreAskedFor db asked zones → (IsDumped asked from to → ⊥) → IsOutOfDump source from to asked
+out_of_dump source from to asked db zones reads are outside =
     record { db = db; reads = reads; there = asked_there db asked zones are; outside = outside }

@@ -1,43 +1,57 @@
 -- What is due at a status, and which status is.
-use Rattle.std.proofs.Common.{◌≡◌, ℕ, List, ◌⊎◌, inl, inr, Option, Some, IsSomeAnd, refl, subst}
-use Rattle.tz_cli.specs.Command.{Command, Info, Local, Dump, Check, Clock, IsCommand, source}
+use Rattle.std.proofs.Common.{◌≡◌, ℕ, ◌<◌, List, ◌⊎◌, inl, inr, Option, refl, sym, subst, arith}
+use Rattle.std.specs.List.{AllZip, Any}
+use Rattle.tz_types.specs.Limit.{most_bytes}
+use Rattle.tz_types.specs.Source.{bytes_together}
+use Rattle.tz_cli.specs.Command.{Command, Info, Local, Dump, Check, Clock, IsCommand, files_of}
 use Rattle.tz_cli.specs.Answer.{TextAnswers, IsAnswer}
-use Rattle.tz_cli.specs.Outcome.{Contents, told_content, IsDueFor, IsDue}
+use Rattle.tz_cli.specs.Outcome.{FileContents, Holds, IsDueFor, IsDue}
 use Rattle.tz_cli.specs.Refusal.{Refuses, refusal_status, refusal_line}
 use Rattle.tz_cli.specs.declared.status.Status.{Status}
 use Rattle.tz_cli.specs.declared.status.Status.TheVariants as statuses
 use Rattle.tz_cli.specs.declared.refusal.Refusal.{Refusal}
 use Rattle.tz_cli.specs.declared.refusal.Refusal.TheVariants as refusals
-use Rattle.tz_cli.proofs.Contents.{same_content}
-use Rattle.tz_cli.proofs.Once.{once}
+use Rattle.tz_cli.proofs.Contents.{same_contents, too_much, some_failed}
+use Rattle.tz_cli.proofs.Once.{once, sized}
 
 -- no command answers that the words are those of none
-no_usage : (command : Command) (text line : List ℕ) → TextAnswers command text statuses.Usage line → ⊥
-no_usage (Info name zone t) text line answer = answer
-no_usage (Local name zone l choice) text line answer = answer
-no_usage (Dump name from to zone) text line answer = answer
-no_usage (Check name) text line answer = answer
-no_usage (Clock name conversion number) text line answer = answer
+no_usage : (command : Command) (contents : List (List ℕ)) (line : List ℕ) → TextAnswers command contents statuses.Usage line → ⊥
+no_usage (Info text zone t) contents line answer = answer.2
+no_usage (Local text zone l choice) contents line answer = answer.2
+no_usage (Dump text from to zone) contents line answer = answer.2
+no_usage (Check text) contents line answer = answer.2
+no_usage (Clock leaps conversion number) contents line answer = answer
 
-pub usage_not_due : (command : Command) (told : Option Contents) (failed : List ℕ → Type 0) (line : List ℕ) → IsDueFor command told failed statuses.Usage line → ⊥
+pub usage_not_due : (command : Command) (told : Option FileContents) (failed : List ℕ → Type 0) (line : List ℕ) → IsDueFor command told failed statuses.Usage line → ⊥
 usage_not_due command told failed line due = no_usage command due.0 line due.2.1
 
 -- what is due for a command is due for its words
-pub for_words : (words : List (List ℕ)) (told : Option Contents) (failed : List ℕ → Type 0) (command : Command) (status : Status) (line : List ℕ) → IsCommand words command → IsDueFor command told failed status line → IsDue words told failed status line
+pub for_words : (words : List (List ℕ)) (told : Option FileContents) (failed : List ℕ → Type 0) (command : Command) (status : Status) (line : List ℕ) → IsCommand words command → IsDueFor command told failed status line → IsDue words told failed status line
 for_words words told failed command statuses.Usage line is due =
     absurd (usage_not_due command told failed line due)
 for_words words told failed command status line is due = (command, is, due)
 
 -- the line of a refusal is due at its status
-pub refusal_due : (command : Command) (told : Option Contents) (failed : List ℕ → Type 0) (refusal : Refusal) → Refuses (IsDueFor command told failed) refusal → IsDueFor command told failed (refusal_status refusal) (refusal_line refusal)
+pub refusal_due : (command : Command) (told : Option FileContents) (failed : List ℕ → Type 0) (refusal : Refusal) → Refuses (IsDueFor command told failed) refusal → IsDueFor command told failed (refusal_status refusal) (refusal_line refusal)
 refusal_due command told failed refusals.Memory refused = inl refl
 refusal_due command told failed refusal refused = refused
 
+-- over contents that are too large together, that is the status
+large_status : (command : Command) (contents : List (List ℕ)) (status : Status) (line : List ℕ) → most_bytes < bytes_together contents → IsAnswer command contents status line → statuses.TooLarge ≡ status
+large_status command contents status line large answer =
+    elim (sized command contents status line answer) [
+      | inl is ↦ sym is.0
+      | inr short ↦ absurd (omega (arith, large, short.0))
+    ]
+
 -- where no read failed, one status is due beside want of memory
-pub one_due : (command : Command) (told : Option Contents) (failed : List ℕ → Type 0) (content : List ℕ) (status due : Status) (line printed : List ℕ) → told_content told (source command) ≡ Some content → IsAnswer command content status line → (IsSomeAnd (source command) failed → ⊥) → IsDueFor command told failed due printed → (due ≡ status) ⊎ (due ≡ statuses.Memory)
-one_due command told failed content status statuses.Read line printed is answer fine due = absurd (fine due.0)
-one_due command told failed content status statuses.Memory line printed is answer fine due = inr refl
-one_due command told failed content status other line printed is answer fine due =
-    let same = same_content told (source command) content due.0 is due.1 in
-    let here : IsAnswer command content other printed = subst (λ (read : List ℕ). IsAnswer command read other printed) same due.2 in
-    inl (once command content other status printed line here answer)
+pub one_due : (command : Command) (told : Option FileContents) (failed : List ℕ → Type 0) (contents : List (List ℕ)) (status due : Status) (line printed : List ℕ) → AllZip (Holds told) (files_of command) contents → IsAnswer command contents status line → (Any failed (files_of command) → ⊥) → IsDueFor command told failed due printed → (due ≡ status) ⊎ (due ≡ statuses.Memory)
+one_due command told failed contents status statuses.Read line printed are answer fine due =
+    absurd (fine (some_failed told (files_of command) failed due.0))
+one_due command told failed contents status statuses.Memory line printed are answer fine due = inr refl
+one_due command told failed contents status statuses.TooLarge line printed are answer fine due =
+    inl (large_status command contents status line (too_much told (files_of command) contents due.0 are due.1) answer)
+one_due command told failed contents status other line printed are answer fine due =
+    let same = same_contents told (files_of command) contents due.0 are due.1 in
+    let here : IsAnswer command contents other printed = subst (λ (read : List (List ℕ)). IsAnswer command read other printed) same due.2 in
+    inl (once command contents other status printed line here answer)

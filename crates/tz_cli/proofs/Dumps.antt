@@ -1,12 +1,11 @@
 -- How the text of a dump grows by one more line, zone or group.
-use Rattle.std.proofs.Common.{◌≡◌, ℕ, zero, suc, ◌+◌, ◌<◌, ◌⊎◌, List, [], ◌∷◌, ◌++◌, length, get_or, take, drop, min, slice_get, Option, Some, None, ℤ, refl, sym, ap, ◌∙◌, append_assoc, length-append, length-drop, zero-add, take-append-drop, inl, inr, arith}
+use Rattle.std.proofs.Common.{◌≡◌, ℕ, zero, suc, ◌+◌, ◌<◌, List, [], ◌∷◌, ◌++◌, length, get_or, take, drop, slice_get, Option, Some, None, ℤ, refl, sym, ap, ◌∙◌, append_assoc, length-append, length-drop, zero-add, take-append-drop, inl, inr, arith}
 use Rattle.std.specs.List.{flat_map, AllZip}
 use Rattle.std.proofs.lemmas.Option.{slice_get_cases, get_or_from_slice_get}
 use Rattle.std.proofs.lemmas.List.{append-nil, get_or-drop, take_more, take-append-le}
 use Rattle.tz_types.specs.declared.range.SysInfo.{SysInfo}
 use Rattle.tz_types.specs.declared.zone.Zone.{Zone}
 use Rattle.tz_types.specs.declared.database.Db.{Db}
-use Rattle.tz_specs.specs.Expansion.{Period, full_expansion}
 use Rattle.tz_io.specs.Sink.{Appends, AppendsPart}
 use Rattle.tz_expand.specs.declared.compiled_zone.CompiledZone.{CompiledZone}
 use Rattle.tz_expand.specs.Zone.{IsCompiled}
@@ -81,11 +80,6 @@ part_of_longer had has text later part =
     let long = length-append text later in
     let short : part.0 < length text = part.1 in
     (part.0, omega arith, rw (take-append-le part.0 text later (omega arith)) part.2)
-
--- nothing is taken of any text
-pub nothing_taken : (had : Option (List ℕ)) (text : List ℕ) → Appends had had (take 0 text)
-nothing_taken None text = refl
-nothing_taken (Some x) text = ap Some (sym (append-nil x))
 
 -- one more zone made ready
 pub next_compiled : (db : Db) (first more : ℕ) (from to : ℤ) (before now : List CompiledZone) → first + more < length db.zones → compiled_texts from to before ≡ dump_text db from to (take more (drop first db.zones)) → ((zone : Zone) → slice_get db.zones (first + more) ≡ Some zone → compiled_texts from to now ≡ compiled_texts from to before ++ zone_text db from to zone) → compiled_texts from to now ≡ dump_text db from to (take (more + 1) (drop first db.zones))

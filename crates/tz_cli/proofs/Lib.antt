@@ -1,6 +1,7 @@
 pub mod Texts
 pub mod InfoLine
 pub mod FewWords
+pub mod Parts
 pub mod Contents
 pub mod ClockLine
 pub mod Asked

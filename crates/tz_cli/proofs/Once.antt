@@ -1,27 +1,33 @@
--- Words are those of one command at most, and a command has one status over a content: the reasons exclude each other.
-use Rattle.std.proofs.Common.{◌≡◌, ℕ, nat_eq, ◌<◌, ◌≤◌, ◌⊎◌, inl, inr, List, [], ◌∷◌, length, codes, Option, Some, None, find, slice_get, Ok, Err, refl, sym, ap, ◌∙◌, subst, arith, ℤ}
+-- Words are those of one command at most, and a command has one status over contents: the reasons exclude each other.
+use Rattle.std.proofs.Common.{◌≡◌, ℕ, nat_eq, ◌<◌, ◌≤◌, ◌⊎◌, inl, inr, List, [], ◌∷◌, length, codes, Option, Some, None, find, slice_get, refl, sym, ap, ◌∙◌, subst, arith, ℤ}
+use mathlib.Core.HLevel.{is_prop→PathP}
+use Rattle.std.proofs.Props.{props}
 use Rattle.std.specs.Cmp.Lexicographic.{pointwise}
-use Rattle.tz_types.specs.declared.fault.Fault.{Fault}
+use Rattle.std.specs.List.{concat}
+use Rattle.tz_types.specs.Limit.{most_bytes, most_files}
+use Rattle.tz_types.specs.Source.{bytes_together}
 use Rattle.tz_types.specs.declared.leaps.Leaps.{Leaps}
 use Rattle.tz_types.specs.declared.range.LocalInfo.{LocalInfo}
 use Rattle.tz_types.specs.declared.zone.Zone.{Zone}
+use Rattle.tz_types.specs.declared.source.Source.{Source}
 use Rattle.tz_types.specs.declared.database.Db.{Db}
 use Rattle.tz_specs.specs.Expansion.{periods_of, full_expansion}
-use Rattle.tz_specs.specs.Local.{local_info, chosen_instant}
+use Rattle.tz_specs.specs.Local.{local_info}
 use Rattle.tz_specs.specs.Reads.{Reads}
 use Rattle.tz_specs.specs.Number.{signed_number_of}
-use Rattle.tz_specs.specs.LeapText.{ReadsLeaps, RefusesLeaps}
+use Rattle.tz_specs.specs.LeapText.{ReadsLeaps}
 use Rattle.tz_output.specs.Choice.{choice_word}
 use Rattle.tz_output.specs.Conversion.{conversion_word}
 use Rattle.tz_cli.specs.Conversion.{IsConvertible}
 use Rattle.tz_cli.specs.Command.{Command, Info, Local, Dump, Check, Clock, IsCommand}
 use Rattle.tz_cli.specs.Info.{InfoAnswers}
-use Rattle.tz_cli.specs.LocalTime.{local_time_of}
+use Rattle.tz_text.specs.LocalTime.{local_time_of}
 use Rattle.tz_cli.specs.Local.{HasLocalInfo, IsLocalLine, LocalAnswers}
-use Rattle.tz_cli.specs.Dump.{AreAskedFor, IsThere, IsMissing, DumpAnswers, asked_for}
+use Rattle.tz_cli.specs.Dump.{IsThere, IsMissing, DumpAnswers, asked_for}
 use Rattle.tz_cli.specs.Check.{CheckAnswers}
 use Rattle.tz_cli.specs.Clock.{ClockAnswers}
-use Rattle.tz_cli.specs.Answer.{TextAnswers, IsAnswer, most_bytes}
+use Rattle.tz_cli.specs.NamedText.{NamedText, named_text_of, IsSourceOf}
+use Rattle.tz_cli.specs.Answer.{TextAnswers, IsAnswer, OfSource}
 use Rattle.tz_output.specs.declared.choice.Choice.{Choice}
 use Rattle.tz_output.specs.declared.choice.Choice.TheVariants as choices
 use Rattle.tz_output.specs.declared.conversion.Conversion.{Conversion}
@@ -58,6 +64,10 @@ one_conversion : (a b : Conversion) → conversion_word a ≡ conversion_word b 
 one_conversion a b same =
     let found : Some a ≡ Some b = sym (own_word a) ∙ ap with_word same ∙ own_word b in cc
 
+one_text : (a b : List ℕ) (m n : NamedText) → a ≡ b → named_text_of a ≡ Some m → named_text_of b ≡ Some n → m ≡ n
+one_text a b m n same first second =
+    let text : Some m ≡ Some n = sym first ∙ ap named_text_of same ∙ second in cc
+
 one_number : (a b : List ℕ) (m n : ℤ) → a ≡ b → signed_number_of 1 15 a ≡ Some m → signed_number_of 1 15 b ≡ Some n → m ≡ n
 one_number a b m n same first second =
     let number : Some m ≡ Some n = sym first ∙ ap (signed_number_of 1 15) same ∙ second in cc
@@ -86,113 +96,117 @@ one_choice a b same =
 -- the words are those of at most one command
 pub one_command : (words : List (List ℕ)) (a b : Command) → IsCommand words a → IsCommand words b → a ≡ b
 one_command words (Info text zone t) (Info text' zone' t') first second =
-    let are : codes "info" ∷ text ∷ zone ∷ first.number ∷ [] ≡ codes "info" ∷ text' ∷ zone' ∷ second.number ∷ [] = sym first.words_are ∙ second.words_are in
+    let are : codes "info" ∷ first.word ∷ zone ∷ first.number ∷ [] ≡ codes "info" ∷ second.word ∷ zone' ∷ second.number ∷ [] = sym first.words_are ∙ second.words_are in
     let number : first.number ≡ second.number = cc in
     let instant : t ≡ t' = one_number first.number second.number t t' number first.number_is second.number_is in
-    let texts : text ≡ text' = cc in
+    let word : first.word ≡ second.word = cc in
+    let texts : text ≡ text' = one_text first.word second.word text text' word first.text_is second.text_is in
     let zones : zone ≡ zone' = cc in cc
 one_command words (Info text zone t) (Check text') first second =
-    let are : codes "info" ∷ text ∷ zone ∷ first.number ∷ [] ≡ codes "check" ∷ text' ∷ [] = sym first.words_are ∙ second in cc
+    let are : codes "info" ∷ first.word ∷ zone ∷ first.number ∷ [] ≡ codes "check" ∷ second.word ∷ [] = sym first.words_are ∙ second.words_are in cc
 one_command words (Info text zone t) (Clock leaps conversion count) first second =
-    let are : codes "info" ∷ text ∷ zone ∷ first.number ∷ [] ≡ codes "clock" ∷ leaps ∷ conversion_word conversion ∷ second.number ∷ [] = sym first.words_are ∙ second.words_are in cc
+    let are : codes "info" ∷ first.word ∷ zone ∷ first.number ∷ [] ≡ codes "clock" ∷ leaps ∷ conversion_word conversion ∷ second.number ∷ [] = sym first.words_are ∙ second.words_are in cc
 one_command words (Info text zone t) (Dump text' from to zone') first second =
-    let are : codes "info" ∷ text ∷ zone ∷ first.number ∷ [] ≡ codes "dump" ∷ text' ∷ second.first ∷ second.last ∷ zone' ∷ [] = sym first.words_are ∙ second.words_are in cc
+    let are : codes "info" ∷ first.word ∷ zone ∷ first.number ∷ [] ≡ codes "dump" ∷ second.word ∷ second.first ∷ second.last ∷ zone' ∷ [] = sym first.words_are ∙ second.words_are in cc
 one_command words (Dump text from to zone) (Info text' zone' t') first second =
-    let are : codes "dump" ∷ text ∷ first.first ∷ first.last ∷ zone ∷ [] ≡ codes "info" ∷ text' ∷ zone' ∷ second.number ∷ [] = sym first.words_are ∙ second.words_are in cc
+    let are : codes "dump" ∷ first.word ∷ first.first ∷ first.last ∷ zone ∷ [] ≡ codes "info" ∷ second.word ∷ zone' ∷ second.number ∷ [] = sym first.words_are ∙ second.words_are in cc
 one_command words (Dump text from to zone) (Dump text' from' to' zone') first second =
-    let are : codes "dump" ∷ text ∷ first.first ∷ first.last ∷ zone ∷ [] ≡ codes "dump" ∷ text' ∷ second.first ∷ second.last ∷ zone' ∷ [] = sym first.words_are ∙ second.words_are in
+    let are : codes "dump" ∷ first.word ∷ first.first ∷ first.last ∷ zone ∷ [] ≡ codes "dump" ∷ second.word ∷ second.first ∷ second.last ∷ zone' ∷ [] = sym first.words_are ∙ second.words_are in
     let begins : first.first ≡ second.first = cc in
     let ends : first.last ≡ second.last = cc in
     let froms : from ≡ from' = one_number first.first second.first from from' begins first.first_is second.first_is in
     let tos : to ≡ to' = one_number first.last second.last to to' ends first.last_is second.last_is in
-    let texts : text ≡ text' = cc in
+    let word : first.word ≡ second.word = cc in
+    let texts : text ≡ text' = one_text first.word second.word text text' word first.text_is second.text_is in
     let zones : zone ≡ zone' = cc in cc
 one_command words (Dump text from to zone) (Check text') first second =
-    let are : codes "dump" ∷ text ∷ first.first ∷ first.last ∷ zone ∷ [] ≡ codes "check" ∷ text' ∷ [] = sym first.words_are ∙ second in cc
+    let are : codes "dump" ∷ first.word ∷ first.first ∷ first.last ∷ zone ∷ [] ≡ codes "check" ∷ second.word ∷ [] = sym first.words_are ∙ second.words_are in cc
 one_command words (Dump text from to zone) (Clock leaps conversion count) first second =
-    let are : codes "dump" ∷ text ∷ first.first ∷ first.last ∷ zone ∷ [] ≡ codes "clock" ∷ leaps ∷ conversion_word conversion ∷ second.number ∷ [] = sym first.words_are ∙ second.words_are in cc
+    let are : codes "dump" ∷ first.word ∷ first.first ∷ first.last ∷ zone ∷ [] ≡ codes "clock" ∷ leaps ∷ conversion_word conversion ∷ second.number ∷ [] = sym first.words_are ∙ second.words_are in cc
 one_command words (Check text) (Dump text' from to zone') first second =
-    let are : codes "check" ∷ text ∷ [] ≡ codes "dump" ∷ text' ∷ second.first ∷ second.last ∷ zone' ∷ [] = sym first ∙ second.words_are in cc
+    let are : codes "check" ∷ first.word ∷ [] ≡ codes "dump" ∷ second.word ∷ second.first ∷ second.last ∷ zone' ∷ [] = sym first.words_are ∙ second.words_are in cc
 one_command words (Clock leaps conversion count) (Dump text' from to zone') first second =
-    let are : codes "clock" ∷ leaps ∷ conversion_word conversion ∷ first.number ∷ [] ≡ codes "dump" ∷ text' ∷ second.first ∷ second.last ∷ zone' ∷ [] = sym first.words_are ∙ second.words_are in cc
+    let are : codes "clock" ∷ leaps ∷ conversion_word conversion ∷ first.number ∷ [] ≡ codes "dump" ∷ second.word ∷ second.first ∷ second.last ∷ zone' ∷ [] = sym first.words_are ∙ second.words_are in cc
 one_command words (Check text) (Info text' zone' t') first second =
-    let are : codes "check" ∷ text ∷ [] ≡ codes "info" ∷ text' ∷ zone' ∷ second.number ∷ [] = sym first ∙ second.words_are in cc
+    let are : codes "check" ∷ first.word ∷ [] ≡ codes "info" ∷ second.word ∷ zone' ∷ second.number ∷ [] = sym first.words_are ∙ second.words_are in cc
 one_command words (Check text) (Check text') first second =
-    let are : codes "check" ∷ text ∷ [] ≡ codes "check" ∷ text' ∷ [] = sym first ∙ second in
-    let texts : text ≡ text' = cc in cc
+    let are : codes "check" ∷ first.word ∷ [] ≡ codes "check" ∷ second.word ∷ [] = sym first.words_are ∙ second.words_are in
+    let word : first.word ≡ second.word = cc in
+    let texts : text ≡ text' = one_text first.word second.word text text' word first.text_is second.text_is in cc
 one_command words (Check text) (Clock leaps conversion count) first second =
-    let are : codes "check" ∷ text ∷ [] ≡ codes "clock" ∷ leaps ∷ conversion_word conversion ∷ second.number ∷ [] = sym first ∙ second.words_are in cc
+    let are : codes "check" ∷ first.word ∷ [] ≡ codes "clock" ∷ leaps ∷ conversion_word conversion ∷ second.number ∷ [] = sym first.words_are ∙ second.words_are in cc
 one_command words (Clock leaps conversion count) (Info text' zone' t') first second =
-    let are : codes "clock" ∷ leaps ∷ conversion_word conversion ∷ first.number ∷ [] ≡ codes "info" ∷ text' ∷ zone' ∷ second.number ∷ [] = sym first.words_are ∙ second.words_are in cc
+    let are : codes "clock" ∷ leaps ∷ conversion_word conversion ∷ first.number ∷ [] ≡ codes "info" ∷ second.word ∷ zone' ∷ second.number ∷ [] = sym first.words_are ∙ second.words_are in cc
 one_command words (Clock leaps conversion count) (Check text') first second =
-    let are : codes "clock" ∷ leaps ∷ conversion_word conversion ∷ first.number ∷ [] ≡ codes "check" ∷ text' ∷ [] = sym first.words_are ∙ second in cc
+    let are : codes "clock" ∷ leaps ∷ conversion_word conversion ∷ first.number ∷ [] ≡ codes "check" ∷ second.word ∷ [] = sym first.words_are ∙ second.words_are in cc
 one_command words (Clock leaps conversion count) (Clock leaps' conversion' count') first second =
     let are : codes "clock" ∷ leaps ∷ conversion_word conversion ∷ first.number ∷ [] ≡ codes "clock" ∷ leaps' ∷ conversion_word conversion' ∷ second.number ∷ [] = sym first.words_are ∙ second.words_are in
     let number : first.number ≡ second.number = cc in
     let counts : count ≡ count' = one_number first.number second.number count count' number first.number_is second.number_is in
     let files : leaps ≡ leaps' = cc in
-    let word : conversion_word conversion ≡ conversion_word conversion' = cc in
-    let same : conversion ≡ conversion' = one_conversion conversion conversion' word in cc
+    let spelt : conversion_word conversion ≡ conversion_word conversion' = cc in
+    let same : conversion ≡ conversion' = one_conversion conversion conversion' spelt in cc
 one_command words (Info text zone t) (Local text' zone' l' choice') first second =
-    let are : codes "info" ∷ text ∷ zone ∷ first.number ∷ [] ≡ codes "local" ∷ text' ∷ zone' ∷ second.time ∷ choice_word choice' ∷ [] = sym first.words_are ∙ second.words_are in cc
+    let are : codes "info" ∷ first.word ∷ zone ∷ first.number ∷ [] ≡ codes "local" ∷ second.word ∷ zone' ∷ second.time ∷ choice_word choice' ∷ [] = sym first.words_are ∙ second.words_are in cc
 one_command words (Local text zone l choice) (Info text' zone' t') first second =
-    let are : codes "local" ∷ text ∷ zone ∷ first.time ∷ choice_word choice ∷ [] ≡ codes "info" ∷ text' ∷ zone' ∷ second.number ∷ [] = sym first.words_are ∙ second.words_are in cc
+    let are : codes "local" ∷ first.word ∷ zone ∷ first.time ∷ choice_word choice ∷ [] ≡ codes "info" ∷ second.word ∷ zone' ∷ second.number ∷ [] = sym first.words_are ∙ second.words_are in cc
 one_command words (Dump text from to zone) (Local text' zone' l' choice') first second =
-    let are : codes "dump" ∷ text ∷ first.first ∷ first.last ∷ zone ∷ [] ≡ codes "local" ∷ text' ∷ zone' ∷ second.time ∷ choice_word choice' ∷ [] = sym first.words_are ∙ second.words_are in cc
+    let are : codes "dump" ∷ first.word ∷ first.first ∷ first.last ∷ zone ∷ [] ≡ codes "local" ∷ second.word ∷ zone' ∷ second.time ∷ choice_word choice' ∷ [] = sym first.words_are ∙ second.words_are in cc
 one_command words (Local text zone l choice) (Dump text' from' to' zone') first second =
-    let are : codes "local" ∷ text ∷ zone ∷ first.time ∷ choice_word choice ∷ [] ≡ codes "dump" ∷ text' ∷ second.first ∷ second.last ∷ zone' ∷ [] = sym first.words_are ∙ second.words_are in cc
+    let are : codes "local" ∷ first.word ∷ zone ∷ first.time ∷ choice_word choice ∷ [] ≡ codes "dump" ∷ second.word ∷ second.first ∷ second.last ∷ zone' ∷ [] = sym first.words_are ∙ second.words_are in cc
 one_command words (Check text) (Local text' zone' l' choice') first second =
-    let are : codes "check" ∷ text ∷ [] ≡ codes "local" ∷ text' ∷ zone' ∷ second.time ∷ choice_word choice' ∷ [] = sym first ∙ second.words_are in cc
+    let are : codes "check" ∷ first.word ∷ [] ≡ codes "local" ∷ second.word ∷ zone' ∷ second.time ∷ choice_word choice' ∷ [] = sym first.words_are ∙ second.words_are in cc
 one_command words (Local text zone l choice) (Check text') first second =
-    let are : codes "local" ∷ text ∷ zone ∷ first.time ∷ choice_word choice ∷ [] ≡ codes "check" ∷ text' ∷ [] = sym first.words_are ∙ second in cc
+    let are : codes "local" ∷ first.word ∷ zone ∷ first.time ∷ choice_word choice ∷ [] ≡ codes "check" ∷ second.word ∷ [] = sym first.words_are ∙ second.words_are in cc
 one_command words (Clock leaps conversion count) (Local text' zone' l' choice') first second =
-    let are : codes "clock" ∷ leaps ∷ conversion_word conversion ∷ first.number ∷ [] ≡ codes "local" ∷ text' ∷ zone' ∷ second.time ∷ choice_word choice' ∷ [] = sym first.words_are ∙ second.words_are in cc
+    let are : codes "clock" ∷ leaps ∷ conversion_word conversion ∷ first.number ∷ [] ≡ codes "local" ∷ second.word ∷ zone' ∷ second.time ∷ choice_word choice' ∷ [] = sym first.words_are ∙ second.words_are in cc
 one_command words (Local text zone l choice) (Clock leaps' conversion' count') first second =
-    let are : codes "local" ∷ text ∷ zone ∷ first.time ∷ choice_word choice ∷ [] ≡ codes "clock" ∷ leaps' ∷ conversion_word conversion' ∷ second.number ∷ [] = sym first.words_are ∙ second.words_are in cc
+    let are : codes "local" ∷ first.word ∷ zone ∷ first.time ∷ choice_word choice ∷ [] ≡ codes "clock" ∷ leaps' ∷ conversion_word conversion' ∷ second.number ∷ [] = sym first.words_are ∙ second.words_are in cc
 one_command words (Local text zone l choice) (Local text' zone' l' choice') first second =
-    let are : codes "local" ∷ text ∷ zone ∷ first.time ∷ choice_word choice ∷ [] ≡ codes "local" ∷ text' ∷ zone' ∷ second.time ∷ choice_word choice' ∷ [] = sym first.words_are ∙ second.words_are in
+    let are : codes "local" ∷ first.word ∷ zone ∷ first.time ∷ choice_word choice ∷ [] ≡ codes "local" ∷ second.word ∷ zone' ∷ second.time ∷ choice_word choice' ∷ [] = sym first.words_are ∙ second.words_are in
     let time : first.time ≡ second.time = cc in
     let times : l ≡ l' = one_time first.time second.time l l' time first.time_is second.time_is in
-    let word : choice_word choice ≡ choice_word choice' = cc in
-    let same : choice ≡ choice' = one_choice choice choice' word in
-    let texts : text ≡ text' = cc in
+    let spelt : choice_word choice ≡ choice_word choice' = cc in
+    let same : choice ≡ choice' = one_choice choice choice' spelt in
+    let word : first.word ≡ second.word = cc in
+    let texts : text ≡ text' = one_text first.word second.word text text' word first.text_is second.text_is in
     let zones : zone ≡ zone' = cc in cc
 
-info_once : (text name : List ℕ) (t : ℤ) (r s : Status) (line other : List ℕ) → InfoAnswers text name t r line → InfoAnswers text name t s other → r ≡ s
-info_once text name t statuses.Ok statuses.Ok line other a b = refl
-info_once text name t statuses.Ok statuses.Text line other a b = absurd (read_isnt_refused text a.db b.0 a.reads b.1)
-info_once text name t statuses.Ok statuses.NoZone line other a b =
-    absurd (some_not_none text name a.db b.0.db a.reads b.0.reads (rw a.named refl) b.0.none)
-info_once text name t statuses.Ok statuses.Range line other a b = absurd (b.0.outside a.inside)
-info_once text name t statuses.Ok s line other a b = absurd b
-info_once text name t statuses.Text statuses.Ok line other a b = absurd (read_isnt_refused text b.db a.0 b.reads a.1)
-info_once text name t statuses.Text statuses.Text line other a b = refl
-info_once text name t statuses.Text statuses.NoZone line other a b =
-    absurd (read_isnt_refused text b.0.db a.0 b.0.reads a.1)
-info_once text name t statuses.Text statuses.Range line other a b =
-    absurd (read_isnt_refused text b.0.db a.0 b.0.reads a.1)
-info_once text name t statuses.Text s line other a b = absurd b
-info_once text name t statuses.NoZone statuses.Ok line other a b =
-    absurd (some_not_none text name b.db a.0.db b.reads a.0.reads (rw b.named refl) a.0.none)
-info_once text name t statuses.NoZone statuses.Text line other a b =
-    absurd (read_isnt_refused text a.0.db b.0 a.0.reads b.1)
-info_once text name t statuses.NoZone statuses.NoZone line other a b = refl
-info_once text name t statuses.NoZone statuses.Range line other a b =
-    absurd (some_not_none text name b.0.db a.0.db b.0.reads a.0.reads b.0.there a.0.none)
-info_once text name t statuses.NoZone s line other a b = absurd b
-info_once text name t statuses.Range statuses.Ok line other a b = absurd (a.0.outside b.inside)
-info_once text name t statuses.Range statuses.Text line other a b =
-    absurd (read_isnt_refused text a.0.db b.0 a.0.reads b.1)
-info_once text name t statuses.Range statuses.NoZone line other a b =
-    absurd (some_not_none text name a.0.db b.0.db a.0.reads b.0.reads a.0.there b.0.none)
-info_once text name t statuses.Range statuses.Range line other a b = refl
-info_once text name t statuses.Range s line other a b = absurd b
-info_once text name t r s line other a b = absurd a
+info_once : (source : Source) (name : List ℕ) (t : ℤ) (r s : Status) (line other : List ℕ) → InfoAnswers source name t r line → InfoAnswers source name t s other → r ≡ s
+info_once source name t statuses.Ok statuses.Ok line other a b = refl
+info_once source name t statuses.Ok statuses.Text line other a b = absurd (read_isnt_refused source a.db b.0 a.reads b.1)
+info_once source name t statuses.Ok statuses.NoZone line other a b =
+    absurd (some_not_none source name a.db b.0.db a.reads b.0.reads (rw a.named refl) b.0.none)
+info_once source name t statuses.Ok statuses.Range line other a b = absurd (b.0.outside a.inside)
+info_once source name t statuses.Ok s line other a b = absurd b
+info_once source name t statuses.Text statuses.Ok line other a b = absurd (read_isnt_refused source b.db a.0 b.reads a.1)
+info_once source name t statuses.Text statuses.Text line other a b = refl
+info_once source name t statuses.Text statuses.NoZone line other a b =
+    absurd (read_isnt_refused source b.0.db a.0 b.0.reads a.1)
+info_once source name t statuses.Text statuses.Range line other a b =
+    absurd (read_isnt_refused source b.0.db a.0 b.0.reads a.1)
+info_once source name t statuses.Text s line other a b = absurd b
+info_once source name t statuses.NoZone statuses.Ok line other a b =
+    absurd (some_not_none source name b.db a.0.db b.reads a.0.reads (rw b.named refl) a.0.none)
+info_once source name t statuses.NoZone statuses.Text line other a b =
+    absurd (read_isnt_refused source a.0.db b.0 a.0.reads b.1)
+info_once source name t statuses.NoZone statuses.NoZone line other a b = refl
+info_once source name t statuses.NoZone statuses.Range line other a b =
+    absurd (some_not_none source name b.0.db a.0.db b.0.reads a.0.reads b.0.there a.0.none)
+info_once source name t statuses.NoZone s line other a b = absurd b
+info_once source name t statuses.Range statuses.Ok line other a b = absurd (a.0.outside b.inside)
+info_once source name t statuses.Range statuses.Text line other a b =
+    absurd (read_isnt_refused source a.0.db b.0 a.0.reads b.1)
+info_once source name t statuses.Range statuses.NoZone line other a b =
+    absurd (some_not_none source name a.0.db b.0.db a.0.reads b.0.reads a.0.there b.0.none)
+info_once source name t statuses.Range statuses.Range line other a b = refl
+info_once source name t statuses.Range s line other a b = absurd b
+info_once source name t r s line other a b = absurd a
 
--- a text tells one thing of a local time
-same_local_info : (text name : List ℕ) (l : ℤ) (a b : LocalInfo) → HasLocalInfo text name l a → HasLocalInfo text name l b → a ≡ b
-same_local_info text name l a b first second =
-    let dbs : first.db ≡ second.db = one_database text first.db second.db first.reads second.reads in
+-- a source tells one thing of a local time
+same_local_info : (source : Source) (name : List ℕ) (l : ℤ) (a b : LocalInfo) → HasLocalInfo source name l a → HasLocalInfo source name l b → a ≡ b
+same_local_info source name l a b first second =
+    let dbs : first.db ≡ second.db = one_database source first.db second.db first.reads second.reads in
     let places : Some first.place ≡ Some second.place = sym first.named ∙ ap (λ (db : Db). located db name) dbs ∙ second.named in
     let place : first.place ≡ second.place = cc in
     let zones : Some first.zone ≡ Some second.zone = sym first.there ∙ ap (λ (db : Db). slice_get db.zones first.place) dbs ∙ ap (λ (place : ℕ). slice_get second.db.zones place) place ∙ second.there in
@@ -206,102 +220,102 @@ not_undecided choices.Strict info l line is strict not_unique = decided info l i
 not_undecided choices.Earliest info l line is strict not_unique = cc
 not_undecided choices.Latest info l line is strict not_unique = cc
 
-local_once : (text name : List ℕ) (l : ℤ) (choice : Choice) (r s : Status) (line other : List ℕ) → LocalAnswers text name l choice r line → LocalAnswers text name l choice s other → r ≡ s
-local_once text name l choice statuses.Ok statuses.Ok line other a b = refl
-local_once text name l choice statuses.Ok statuses.Text line other a b = absurd (read_isnt_refused text a.1.db b.0 a.1.reads b.1)
-local_once text name l choice statuses.Ok statuses.NoZone line other a b =
-    absurd (some_not_none text name a.1.db b.0.db a.1.reads b.0.reads (rw a.1.named refl) b.0.none)
-local_once text name l choice statuses.Ok statuses.Range line other a b = absurd (b.0.outside a.1.inside)
-local_once text name l choice statuses.Ok statuses.Local line other a b =
-    let same = same_local_info text name l b.0 a.0 b.1 a.1 in
+local_once : (source : Source) (name : List ℕ) (l : ℤ) (choice : Choice) (r s : Status) (line other : List ℕ) → LocalAnswers source name l choice r line → LocalAnswers source name l choice s other → r ≡ s
+local_once source name l choice statuses.Ok statuses.Ok line other a b = refl
+local_once source name l choice statuses.Ok statuses.Text line other a b = absurd (read_isnt_refused source a.1.db b.0 a.1.reads b.1)
+local_once source name l choice statuses.Ok statuses.NoZone line other a b =
+    absurd (some_not_none source name a.1.db b.0.db a.1.reads b.0.reads (rw a.1.named refl) b.0.none)
+local_once source name l choice statuses.Ok statuses.Range line other a b = absurd (b.0.outside a.1.inside)
+local_once source name l choice statuses.Ok statuses.Local line other a b =
+    let same = same_local_info source name l b.0 a.0 b.1 a.1 in
     absurd (not_undecided choice a.0 l line a.2 b.2.0 (subst IsNotUnique same b.2.1))
-local_once text name l choice statuses.Ok s line other a b = absurd b
-local_once text name l choice statuses.Text statuses.Ok line other a b = absurd (read_isnt_refused text b.1.db a.0 b.1.reads a.1)
-local_once text name l choice statuses.Text statuses.Text line other a b = refl
-local_once text name l choice statuses.Text statuses.NoZone line other a b =
-    absurd (read_isnt_refused text b.0.db a.0 b.0.reads a.1)
-local_once text name l choice statuses.Text statuses.Range line other a b =
-    absurd (read_isnt_refused text b.0.db a.0 b.0.reads a.1)
-local_once text name l choice statuses.Text statuses.Local line other a b = absurd (read_isnt_refused text b.1.db a.0 b.1.reads a.1)
-local_once text name l choice statuses.Text s line other a b = absurd b
-local_once text name l choice statuses.NoZone statuses.Ok line other a b =
-    absurd (some_not_none text name b.1.db a.0.db b.1.reads a.0.reads (rw b.1.named refl) a.0.none)
-local_once text name l choice statuses.NoZone statuses.Text line other a b =
-    absurd (read_isnt_refused text a.0.db b.0 a.0.reads b.1)
-local_once text name l choice statuses.NoZone statuses.NoZone line other a b = refl
-local_once text name l choice statuses.NoZone statuses.Range line other a b =
-    absurd (some_not_none text name b.0.db a.0.db b.0.reads a.0.reads b.0.there a.0.none)
-local_once text name l choice statuses.NoZone statuses.Local line other a b =
-    absurd (some_not_none text name b.1.db a.0.db b.1.reads a.0.reads (rw b.1.named refl) a.0.none)
-local_once text name l choice statuses.NoZone s line other a b = absurd b
-local_once text name l choice statuses.Range statuses.Ok line other a b = absurd (a.0.outside b.1.inside)
-local_once text name l choice statuses.Range statuses.Text line other a b =
-    absurd (read_isnt_refused text a.0.db b.0 a.0.reads b.1)
-local_once text name l choice statuses.Range statuses.NoZone line other a b =
-    absurd (some_not_none text name a.0.db b.0.db a.0.reads b.0.reads a.0.there b.0.none)
-local_once text name l choice statuses.Range statuses.Range line other a b = refl
-local_once text name l choice statuses.Range statuses.Local line other a b = absurd (a.0.outside b.1.inside)
-local_once text name l choice statuses.Range s line other a b = absurd b
-local_once text name l choice statuses.Local statuses.Ok line other a b =
-    let same = same_local_info text name l a.0 b.0 a.1 b.1 in
+local_once source name l choice statuses.Ok s line other a b = absurd b
+local_once source name l choice statuses.Text statuses.Ok line other a b = absurd (read_isnt_refused source b.1.db a.0 b.1.reads a.1)
+local_once source name l choice statuses.Text statuses.Text line other a b = refl
+local_once source name l choice statuses.Text statuses.NoZone line other a b =
+    absurd (read_isnt_refused source b.0.db a.0 b.0.reads a.1)
+local_once source name l choice statuses.Text statuses.Range line other a b =
+    absurd (read_isnt_refused source b.0.db a.0 b.0.reads a.1)
+local_once source name l choice statuses.Text statuses.Local line other a b = absurd (read_isnt_refused source b.1.db a.0 b.1.reads a.1)
+local_once source name l choice statuses.Text s line other a b = absurd b
+local_once source name l choice statuses.NoZone statuses.Ok line other a b =
+    absurd (some_not_none source name b.1.db a.0.db b.1.reads a.0.reads (rw b.1.named refl) a.0.none)
+local_once source name l choice statuses.NoZone statuses.Text line other a b =
+    absurd (read_isnt_refused source a.0.db b.0 a.0.reads b.1)
+local_once source name l choice statuses.NoZone statuses.NoZone line other a b = refl
+local_once source name l choice statuses.NoZone statuses.Range line other a b =
+    absurd (some_not_none source name b.0.db a.0.db b.0.reads a.0.reads b.0.there a.0.none)
+local_once source name l choice statuses.NoZone statuses.Local line other a b =
+    absurd (some_not_none source name b.1.db a.0.db b.1.reads a.0.reads (rw b.1.named refl) a.0.none)
+local_once source name l choice statuses.NoZone s line other a b = absurd b
+local_once source name l choice statuses.Range statuses.Ok line other a b = absurd (a.0.outside b.1.inside)
+local_once source name l choice statuses.Range statuses.Text line other a b =
+    absurd (read_isnt_refused source a.0.db b.0 a.0.reads b.1)
+local_once source name l choice statuses.Range statuses.NoZone line other a b =
+    absurd (some_not_none source name a.0.db b.0.db a.0.reads b.0.reads a.0.there b.0.none)
+local_once source name l choice statuses.Range statuses.Range line other a b = refl
+local_once source name l choice statuses.Range statuses.Local line other a b = absurd (a.0.outside b.1.inside)
+local_once source name l choice statuses.Range s line other a b = absurd b
+local_once source name l choice statuses.Local statuses.Ok line other a b =
+    let same = same_local_info source name l a.0 b.0 a.1 b.1 in
     absurd (not_undecided choice b.0 l other b.2 a.2.0 (subst IsNotUnique same a.2.1))
-local_once text name l choice statuses.Local statuses.Text line other a b = absurd (read_isnt_refused text a.1.db b.0 a.1.reads b.1)
-local_once text name l choice statuses.Local statuses.NoZone line other a b =
-    absurd (some_not_none text name a.1.db b.0.db a.1.reads b.0.reads (rw a.1.named refl) b.0.none)
-local_once text name l choice statuses.Local statuses.Range line other a b = absurd (b.0.outside a.1.inside)
-local_once text name l choice statuses.Local statuses.Local line other a b = refl
-local_once text name l choice statuses.Local s line other a b = absurd b
-local_once text name l choice r s line other a b = absurd a
+local_once source name l choice statuses.Local statuses.Text line other a b = absurd (read_isnt_refused source a.1.db b.0 a.1.reads b.1)
+local_once source name l choice statuses.Local statuses.NoZone line other a b =
+    absurd (some_not_none source name a.1.db b.0.db a.1.reads b.0.reads (rw a.1.named refl) b.0.none)
+local_once source name l choice statuses.Local statuses.Range line other a b = absurd (b.0.outside a.1.inside)
+local_once source name l choice statuses.Local statuses.Local line other a b = refl
+local_once source name l choice statuses.Local s line other a b = absurd b
+local_once source name l choice r s line other a b = absurd a
 
-not_missing : (text : List ℕ) (asked : Option (List ℕ)) (db : Db) → Reads text db → IsThere db asked → IsMissing text asked → ⊥
-not_missing text None db reads there missing = missing
-not_missing text (Some name) db reads there missing = some_not_none text name db missing.db reads missing.reads there missing.none
+not_missing : (source : Source) (asked : Option (List ℕ)) (db : Db) → Reads source db → IsThere db asked → IsMissing source asked → ⊥
+not_missing source None db reads there missing = missing
+not_missing source (Some name) db reads there missing = some_not_none source name db missing.db reads missing.reads there missing.none
 
-missing_reads : (text : List ℕ) (asked : Option (List ℕ)) → IsMissing text asked → (db : Db) × Reads text db
-missing_reads text None missing = absurd missing
-missing_reads text (Some name) missing = (missing.db, missing.reads)
+missing_reads : (source : Source) (asked : Option (List ℕ)) → IsMissing source asked → (db : Db) × Reads source db
+missing_reads source None missing = absurd missing
+missing_reads source (Some name) missing = (missing.db, missing.reads)
 
-dump_once : (text : List ℕ) (from to : ℤ) (asked : Option (List ℕ)) (r s : Status) (line other : List ℕ) → DumpAnswers text from to asked r line → DumpAnswers text from to asked s other → r ≡ s
-dump_once text from to asked statuses.Ok statuses.Ok line other a b = refl
-dump_once text from to asked statuses.Ok statuses.Text line other a b = absurd (read_isnt_refused text a.db b.0 a.reads b.1)
-dump_once text from to asked statuses.Ok statuses.NoZone line other a b =
-    absurd (not_missing text asked a.db a.reads (asked_there a.db asked a.zones a.are) b.0)
-dump_once text from to asked statuses.Ok statuses.Range line other a b = absurd (b.0.outside a.dumped)
-dump_once text from to asked statuses.Ok s line other a b = absurd b
-dump_once text from to asked statuses.Text statuses.Ok line other a b = absurd (read_isnt_refused text b.db a.0 b.reads a.1)
-dump_once text from to asked statuses.Text statuses.Text line other a b = refl
-dump_once text from to asked statuses.Text statuses.NoZone line other a b =
-    let read = missing_reads text asked b.0 in
-    absurd (read_isnt_refused text read.0 a.0 read.1 a.1)
-dump_once text from to asked statuses.Text statuses.Range line other a b =
-    absurd (read_isnt_refused text b.0.db a.0 b.0.reads a.1)
-dump_once text from to asked statuses.Text s line other a b = absurd b
-dump_once text from to asked statuses.NoZone statuses.Ok line other a b =
-    absurd (not_missing text asked b.db b.reads (asked_there b.db asked b.zones b.are) a.0)
-dump_once text from to asked statuses.NoZone statuses.Text line other a b =
-    let read = missing_reads text asked a.0 in
-    absurd (read_isnt_refused text read.0 b.0 read.1 b.1)
-dump_once text from to asked statuses.NoZone statuses.NoZone line other a b = refl
-dump_once text from to asked statuses.NoZone statuses.Range line other a b =
-    absurd (not_missing text asked b.0.db b.0.reads b.0.there a.0)
-dump_once text from to asked statuses.NoZone s line other a b = absurd b
-dump_once text from to asked statuses.Range statuses.Ok line other a b = absurd (a.0.outside b.dumped)
-dump_once text from to asked statuses.Range statuses.Text line other a b =
-    absurd (read_isnt_refused text a.0.db b.0 a.0.reads b.1)
-dump_once text from to asked statuses.Range statuses.NoZone line other a b =
-    absurd (not_missing text asked a.0.db a.0.reads a.0.there b.0)
-dump_once text from to asked statuses.Range statuses.Range line other a b = refl
-dump_once text from to asked statuses.Range s line other a b = absurd b
-dump_once text from to asked r s line other a b = absurd a
+dump_once : (source : Source) (from to : ℤ) (asked : Option (List ℕ)) (r s : Status) (line other : List ℕ) → DumpAnswers source from to asked r line → DumpAnswers source from to asked s other → r ≡ s
+dump_once source from to asked statuses.Ok statuses.Ok line other a b = refl
+dump_once source from to asked statuses.Ok statuses.Text line other a b = absurd (read_isnt_refused source a.db b.0 a.reads b.1)
+dump_once source from to asked statuses.Ok statuses.NoZone line other a b =
+    absurd (not_missing source asked a.db a.reads (asked_there a.db asked a.zones a.are) b.0)
+dump_once source from to asked statuses.Ok statuses.Range line other a b = absurd (b.0.outside a.dumped)
+dump_once source from to asked statuses.Ok s line other a b = absurd b
+dump_once source from to asked statuses.Text statuses.Ok line other a b = absurd (read_isnt_refused source b.db a.0 b.reads a.1)
+dump_once source from to asked statuses.Text statuses.Text line other a b = refl
+dump_once source from to asked statuses.Text statuses.NoZone line other a b =
+    let read = missing_reads source asked b.0 in
+    absurd (read_isnt_refused source read.0 a.0 read.1 a.1)
+dump_once source from to asked statuses.Text statuses.Range line other a b =
+    absurd (read_isnt_refused source b.0.db a.0 b.0.reads a.1)
+dump_once source from to asked statuses.Text s line other a b = absurd b
+dump_once source from to asked statuses.NoZone statuses.Ok line other a b =
+    absurd (not_missing source asked b.db b.reads (asked_there b.db asked b.zones b.are) a.0)
+dump_once source from to asked statuses.NoZone statuses.Text line other a b =
+    let read = missing_reads source asked a.0 in
+    absurd (read_isnt_refused source read.0 b.0 read.1 b.1)
+dump_once source from to asked statuses.NoZone statuses.NoZone line other a b = refl
+dump_once source from to asked statuses.NoZone statuses.Range line other a b =
+    absurd (not_missing source asked b.0.db b.0.reads b.0.there a.0)
+dump_once source from to asked statuses.NoZone s line other a b = absurd b
+dump_once source from to asked statuses.Range statuses.Ok line other a b = absurd (a.0.outside b.dumped)
+dump_once source from to asked statuses.Range statuses.Text line other a b =
+    absurd (read_isnt_refused source a.0.db b.0 a.0.reads b.1)
+dump_once source from to asked statuses.Range statuses.NoZone line other a b =
+    absurd (not_missing source asked a.0.db a.0.reads a.0.there b.0)
+dump_once source from to asked statuses.Range statuses.Range line other a b = refl
+dump_once source from to asked statuses.Range s line other a b = absurd b
+dump_once source from to asked r s line other a b = absurd a
 
-check_once : (text : List ℕ) (r s : Status) (line other : List ℕ) → CheckAnswers text r line → CheckAnswers text s other → r ≡ s
-check_once text statuses.Ok statuses.Ok line other a b = refl
-check_once text statuses.Ok statuses.Text line other a b = absurd (read_isnt_refused text a.0 b.0 a.1 b.1)
-check_once text statuses.Ok s line other a b = absurd b
-check_once text statuses.Text statuses.Ok line other a b = absurd (read_isnt_refused text b.0 a.0 b.1 a.1)
-check_once text statuses.Text statuses.Text line other a b = refl
-check_once text statuses.Text s line other a b = absurd b
-check_once text r s line other a b = absurd a
+check_once : (source : Source) (r s : Status) (line other : List ℕ) → CheckAnswers source r line → CheckAnswers source s other → r ≡ s
+check_once source statuses.Ok statuses.Ok line other a b = refl
+check_once source statuses.Ok statuses.Text line other a b = absurd (read_isnt_refused source a.0 b.0 a.1 b.1)
+check_once source statuses.Ok s line other a b = absurd b
+check_once source statuses.Text statuses.Ok line other a b = absurd (read_isnt_refused source b.0 a.0 b.1 a.1)
+check_once source statuses.Text statuses.Text line other a b = refl
+check_once source statuses.Text s line other a b = absurd b
+check_once source r s line other a b = absurd a
 
 -- a number is in range of one table or of none
 convertible_same : (text : List ℕ) (conversion : Conversion) (a b : Leaps) (number : ℤ) → ReadsLeaps text a → ReadsLeaps text b → IsConvertible conversion a number → IsConvertible conversion b number
@@ -325,32 +339,53 @@ clock_once text conversion number statuses.Range statuses.Range line other a b =
 clock_once text conversion number statuses.Range s line other a b = absurd b
 clock_once text conversion number r s line other a b = absurd a
 
-text_once : (command : Command) (text : List ℕ) (r s : Status) (line other : List ℕ) → TextAnswers command text r line → TextAnswers command text s other → r ≡ s
-text_once (Info name zone t) text r s line other a b = info_once text zone t r s line other a b
-text_once (Local name zone l choice) text r s line other a b =
-    local_once text zone l choice r s line other a b
-text_once (Dump name from to zone) text r s line other a b = dump_once text from to (asked_for zone) r s line other a b
-text_once (Check name) text r s line other a b = check_once text r s line other a b
-text_once (Clock name conversion number) text r s line other a b =
-    clock_once text conversion number r s line other a b
+-- contents are those of one source, with a version that may be given
+same_source : (text : NamedText) (contents : List (List ℕ)) (a b : Source) → IsSourceOf text contents a → IsSourceOf text contents b → a ≡ b
+same_source text contents a b first second = by_parts (first.version_is ∙ sym second.version_is) (first.files_are ∙ sym second.files_are)
+  where
+    by_parts : a.version ≡ b.version → a.files ≡ b.files → a ≡ b
+    by_parts version files = λ i. record {
+      version = version i;
+      files = files i;
+      some_file = is_prop→PathP (λ j. 1 ≤ length (files j)) (λ j. hlevel props) a.some_file b.some_file i;
+      few_files = is_prop→PathP (λ j. length (files j) ≤ most_files) (λ j. hlevel props) a.few_files b.few_files i;
+      few_bytes = is_prop→PathP (λ j. bytes_together (files j) ≤ most_bytes) (λ j. hlevel props) a.few_bytes b.few_bytes i;
+    }
 
--- the content is too large, or the answer is one over a text
-sized : (command : Command) (content : List ℕ) (r : Status) (line : List ℕ) → IsAnswer command content r line → ((r ≡ statuses.TooLarge) × (most_bytes < length content)) ⊎ ((length content ≤ most_bytes) × TextAnswers command content r line)
-sized command content statuses.TooLarge line a = inl (refl, a.0)
-sized command content r line a = inr a
+-- what has one status over each source has one over contents
+source_once : (text : NamedText) (contents : List (List ℕ)) (answers : Source → Status → List ℕ → Type 0) (r s : Status) (line other : List ℕ) → ((source : Source) → answers source r line → answers source s other → r ≡ s) → OfSource text contents (λ source. answers source r line) → OfSource text contents (λ source. answers source s other) → r ≡ s
+source_once text contents answers r s line other same a b =
+    same a.0 a.2 (subst (λ (source : Source). answers source s other) (same_source text contents b.0 a.0 b.1 a.1) b.2)
 
--- over one content a command has one status
-pub once : (command : Command) (content : List ℕ) (r s : Status) (line other : List ℕ) → IsAnswer command content r line → IsAnswer command content s other → r ≡ s
-once command content r s line other a b =
-    elim (sized command content r line a) [
+text_once : (command : Command) (contents : List (List ℕ)) (r s : Status) (line other : List ℕ) → TextAnswers command contents r line → TextAnswers command contents s other → r ≡ s
+text_once (Info text zone t) contents r s line other a b =
+    source_once text contents (λ source. InfoAnswers source zone t) r s line other (λ source. info_once source zone t r s line other) a b
+text_once (Local text zone l choice) contents r s line other a b =
+    source_once text contents (λ source. LocalAnswers source zone l choice) r s line other (λ source. local_once source zone l choice r s line other) a b
+text_once (Dump text from to zone) contents r s line other a b =
+    source_once text contents (λ source. DumpAnswers source from to (asked_for zone)) r s line other (λ source. dump_once source from to (asked_for zone) r s line other) a b
+text_once (Check text) contents r s line other a b =
+    source_once text contents (λ source. CheckAnswers source) r s line other (λ source. check_once source r s line other) a b
+text_once (Clock leaps conversion number) contents r s line other a b =
+    clock_once (concat contents) conversion number r s line other a b
+
+-- the contents are too large, or the answer is one over a text
+pub sized : (command : Command) (contents : List (List ℕ)) (r : Status) (line : List ℕ) → IsAnswer command contents r line → ((r ≡ statuses.TooLarge) × (most_bytes < bytes_together contents)) ⊎ ((bytes_together contents ≤ most_bytes) × TextAnswers command contents r line)
+sized command contents statuses.TooLarge line a = inl (refl, a.0)
+sized command contents r line a = inr a
+
+-- over one list of contents a command has one status
+pub once : (command : Command) (contents : List (List ℕ)) (r s : Status) (line other : List ℕ) → IsAnswer command contents r line → IsAnswer command contents s other → r ≡ s
+once command contents r s line other a b =
+    elim (sized command contents r line a) [
       | inl large ↦
-          elim (sized command content s other b) [
+          elim (sized command contents s other b) [
             | inl too ↦ large.0 ∙ sym too.0
             | inr short ↦ absurd (omega (arith, large.1, short.0))
           ]
       | inr short ↦
-          elim (sized command content s other b) [
+          elim (sized command contents s other b) [
             | inl large ↦ absurd (omega (arith, large.1, short.0))
-            | inr also ↦ text_once command content r s line other short.1 also.1
+            | inr also ↦ text_once command contents r s line other short.1 also.1
           ]
     ]

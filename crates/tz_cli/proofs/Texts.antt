@@ -1,9 +1,10 @@
--- What one text says, it says of each database that is read from it, and a text that is read isn't refused.
+-- What one source says, it says of each database that is read from it.
 use Rattle.std.proofs.Common.{◌≡◌, ℕ, ◌<◌, true, false, IsTrue, List, [], ◌∷◌, length, find, Option, Some, None, IsSome, is_some, option_map, cond, nat_lt, refl, ap, ◌∙◌, ⊎_elim, arith}
 use Rattle.std.specs.List.{list_all, position_or_len}
 use Rattle.std.proofs.lemmas.Bool.{cases_Bool, and_parts}
 use Rattle.std.proofs.lemmas.Bool.Decides.{nat_tests}
 use Rattle.tz_types.specs.declared.link.Link.{Link}
+use Rattle.tz_types.specs.declared.source.Source.{Source}
 use Rattle.tz_types.specs.declared.database.Db.{Db}
 use Rattle.tz_specs.specs.Day.{or_else}
 use Rattle.tz_specs.specs.Sound.{is_sound, is_sound_zone}
@@ -12,9 +13,9 @@ use Rattle.tz_specs.proofs.SameDatabase.{one_database}
 use Rattle.tz_lines.specs.Locate.{is_zone_named, is_link_named, located}
 
 -- a name that one database has isn't missing from another
-pub some_not_none : (text name : List ℕ) (a b : Db) → Reads text a → Reads text b → IsSome (located a name) → located b name ≡ None → ⊥
-some_not_none text name a b first second some none =
-    let same : located a name ≡ None = ap (λ db. located db name) (one_database text a b first second) ∙ none in
+pub some_not_none : (source : Source) (name : List ℕ) (a b : Db) → Reads source a → Reads source b → IsSome (located a name) → located b name ≡ None → ⊥
+some_not_none source name a b first second some none =
+    let same : located a name ≡ None = ap (λ db. located db name) (one_database source a b first second) ∙ none in
     let never : is_some (located a name) ≡ false = rw same refl in cc
 
 -- a link that is found leads to a zone, where all do

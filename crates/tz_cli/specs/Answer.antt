@@ -1,5 +1,10 @@
--- What a command answers over the content that it reads.
-use Rattle.std.specs.Prelude.{◌≡◌, ℕ, ◌<◌, ◌≤◌, Bool, true, false, List, length, codes}
+-- What a command answers over the contents of the files that it reads.
+use Rattle.std.specs.Prelude.{◌≡◌, ℕ, ◌<◌, ◌≤◌, Bool, true, false, List, codes}
+use Rattle.std.specs.List.{concat}
+use Rattle.tz_types.specs.Limit.{most_bytes}
+use Rattle.tz_types.specs.Source.{bytes_together}
+use Rattle.tz_types.specs.declared.source.Source.{Source}
+use Rattle.tz_cli.specs.NamedText.{NamedText, IsSourceOf}
 use Rattle.tz_cli.specs.Command.{Command, Info, Local, Dump, Check, Clock}
 use Rattle.tz_cli.specs.Info.{InfoAnswers}
 use Rattle.tz_cli.specs.Local.{LocalAnswers}
@@ -9,27 +14,35 @@ use Rattle.tz_cli.specs.Clock.{ClockAnswers}
 use Rattle.tz_cli.specs.declared.status.Status.{Status}
 use Rattle.tz_cli.specs.declared.status.Status.TheVariants as statuses
 
--- the most bytes of a text
-abbrev pub most_bytes : ℕ
-most_bytes = 4_194_304
+-- It holds of the source of the text named, whose files have these contents.
+abbrev pub OfSource : NamedText → List (List ℕ) → (Source → Type 0) → Type 0
+OfSource text contents holds = (source : Source) × IsSourceOf text contents source × holds source
 
--- the statuses of a command over a text, each with its line and its reason
-abbrev pub TextAnswers : Command → List ℕ → Status → List ℕ → Type 0
-TextAnswers (Info name zone instant) text status line = InfoAnswers text zone instant status line
-TextAnswers (Local name zone l choice) text status line = LocalAnswers text zone l choice status line
-TextAnswers (Dump name from to zone) text status line = DumpAnswers text from to (asked_for zone) status line
-TextAnswers (Check name) text status line = CheckAnswers text status line
-TextAnswers (Clock name conversion number) text status line = ClockAnswers text conversion number status line
+-- The statuses of a command over contents that aren't too large, each with its line and its reason. The leap text of `clock`
+-- is what its file has, and no bytes where it has none.
+abbrev pub TextAnswers : Command → List (List ℕ) → Status → List ℕ → Type 0
+TextAnswers (Info text zone instant) contents status line =
+    OfSource text contents (λ source. InfoAnswers source zone instant status line)
+TextAnswers (Local text zone l choice) contents status line =
+    OfSource text contents (λ source. LocalAnswers source zone l choice status line)
+TextAnswers (Dump text from to zone) contents status line =
+    OfSource text contents (λ source. DumpAnswers source from to (asked_for zone) status line)
+TextAnswers (Check text) contents status line =
+    OfSource text contents (λ source. CheckAnswers source status line)
+TextAnswers (Clock leaps conversion number) contents status line =
+    ClockAnswers (concat contents) conversion number status line
 
--- the same over any content: one that is too large for a text has that one answer
-abbrev pub IsAnswer : Command → List ℕ → Status → List ℕ → Type 0
-IsAnswer command content statuses.TooLarge line = (most_bytes < length content) × (line ≡ codes "toolarge\n")
-IsAnswer command content status line = (length content ≤ most_bytes) × TextAnswers command content status line
+-- the same over any contents: where they are too large together, that is the one answer
+abbrev pub IsAnswer : Command → List (List ℕ) → Status → List ℕ → Type 0
+IsAnswer command contents statuses.TooLarge line =
+    (most_bytes < bytes_together contents) × (line ≡ codes "toolarge\n")
+IsAnswer command contents status line =
+    (bytes_together contents ≤ most_bytes) × TextAnswers command contents status line
 
 -- The command prints what it has made before it makes the rest.
 abbrev pub comes_in_pieces : Command → Bool
-comes_in_pieces (Info name zone instant) = false
-comes_in_pieces (Local name zone l choice) = false
-comes_in_pieces (Dump name from to zone) = true
-comes_in_pieces (Check name) = false
-comes_in_pieces (Clock name conversion number) = false
+comes_in_pieces (Info text zone instant) = false
+comes_in_pieces (Local text zone l choice) = false
+comes_in_pieces (Dump text from to zone) = true
+comes_in_pieces (Check text) = false
+comes_in_pieces (Clock leaps conversion number) = false

@@ -1,6 +1,6 @@
 -- What `clock` answers over a leap text.
 use Rattle.std.specs.Prelude.{◌≡◌, ℕ, List, ℤ, codes}
-use Rattle.tz_types.specs.declared.fault.Fault.{Fault}
+use Rattle.tz_types.specs.declared.fault.LineFault.{LineFault}
 use Rattle.tz_types.specs.declared.leaps.Leaps.{Leaps}
 use Rattle.tz_specs.specs.LeapText.{ReadsLeaps, RefusesLeaps}
 use Rattle.tz_cli.specs.Line.{fault_line}
@@ -22,10 +22,11 @@ pub record IsOutOfClock (text : List ℕ) (conversion : Conversion) (number : �
   pub reads : ReadsLeaps text leaps
   pub outside : ¬ (IsConvertible conversion leaps number)
 
--- The leap text is refused, and the line says with which fault.
+-- The leap text is refused, and the line says with which fault. There is but one file.
 abbrev pub IsLeapRefusal : List ℕ → List ℕ → Type 0
 IsLeapRefusal text line =
-    (fault : Fault) × RefusesLeaps text fault × (line ≡ fault_line (codes "leaps") fault)
+    (fault : LineFault) × RefusesLeaps text fault
+    × (line ≡ fault_line (codes "leaps") (record { file = 0; line = fault.line; cause = fault.cause }))
 
 -- the statuses of `clock`, each with its line and its reason in the leap text
 abbrev pub ClockAnswers : List ℕ → Conversion → ℤ → Status → List ℕ → Type 0

@@ -1,9 +1,10 @@
--- What `dump` answers over a text.
+-- What `dump` answers over a source.
 use Rattle.std.specs.Prelude.{◌≡◌, ℕ, nat_eq, if◌then◌else◌, List, [], ◌∷◌, ◌++◌, filter, codes, ℤ, pos, ◌-ℤ◌, ◌≤ℤ◌, Option, Some, None, IsSome, slice_get}
 use Rattle.std.specs.List.{flat_map}
 use Rattle.std.specs.Cmp.Lexicographic.{pointwise}
 use Rattle.tz_types.specs.declared.range.SysInfo.{SysInfo}
 use Rattle.tz_types.specs.declared.zone.Zone.{Zone}
+use Rattle.tz_types.specs.declared.source.Source.{Source}
 use Rattle.tz_types.specs.declared.database.Db.{Db}
 use Rattle.tz_specs.specs.Expansion.{periods_of, full_expansion}
 use Rattle.tz_specs.specs.Reads.{Reads}
@@ -53,31 +54,31 @@ abbrev pub IsThere : Db → Option (List ℕ) → Type 0
 IsThere db None = Unit {0}
 IsThere db (Some name) = IsSome (located db name)
 
--- The text is that of the zones asked for, which the text of the database has.
-pub record IsDump (text : List ℕ) (from to : ℤ) (asked : Option (List ℕ)) (line : List ℕ) : Type 0 where
+-- The text is that of the zones asked for, which the source has.
+pub record IsDump (source : Source) (from to : ℤ) (asked : Option (List ℕ)) (line : List ℕ) : Type 0 where
   pub db : Db
-  pub reads : Reads text db
+  pub reads : Reads source db
   pub zones : List Zone
   pub are : AreAskedFor db asked zones
   pub dumped : IsDumped asked from to
   pub line_is : line ≡ dump_text db from to zones
 
--- A zone is asked for that no zone and no link of the text has for a name.
-abbrev pub IsMissing : List ℕ → Option (List ℕ) → Type 0
-IsMissing text None = ⊥
-IsMissing text (Some name) = HasNoZone text name
+-- A zone is asked for that no zone and no link of the source has for a name.
+abbrev pub IsMissing : Source → Option (List ℕ) → Type 0
+IsMissing source None = ⊥
+IsMissing source (Some name) = HasNoZone source name
 
--- The text has what is asked for, and the stretch isn't one that is dumped.
-pub record IsOutOfDump (text : List ℕ) (from to : ℤ) (asked : Option (List ℕ)) : Type 0 where
+-- The source has what is asked for, and the stretch isn't one that is dumped.
+pub record IsOutOfDump (source : Source) (from to : ℤ) (asked : Option (List ℕ)) : Type 0 where
   pub db : Db
-  pub reads : Reads text db
+  pub reads : Reads source db
   pub there : IsThere db asked
   pub outside : ¬ (IsDumped asked from to)
 
--- the statuses of `dump`, each with what it prints and its reason in the text
-abbrev pub DumpAnswers : List ℕ → ℤ → ℤ → Option (List ℕ) → Status → List ℕ → Type 0
-DumpAnswers text from to asked statuses.Ok line = IsDump text from to asked line
-DumpAnswers text from to asked statuses.Text line = IsTextRefusal text line
-DumpAnswers text from to asked statuses.NoZone line = IsMissing text asked × (line ≡ codes "nozone\n")
-DumpAnswers text from to asked statuses.Range line = IsOutOfDump text from to asked × (line ≡ codes "range\n")
-DumpAnswers text from to asked _ line = ⊥
+-- the statuses of `dump`, each with what it prints and its reason in the source
+abbrev pub DumpAnswers : Source → ℤ → ℤ → Option (List ℕ) → Status → List ℕ → Type 0
+DumpAnswers source from to asked statuses.Ok line = IsDump source from to asked line
+DumpAnswers source from to asked statuses.Text line = IsTextRefusal source line
+DumpAnswers source from to asked statuses.NoZone line = IsMissing source asked × (line ≡ codes "nozone\n")
+DumpAnswers source from to asked statuses.Range line = IsOutOfDump source from to asked × (line ≡ codes "range\n")
+DumpAnswers source from to asked _ line = ⊥

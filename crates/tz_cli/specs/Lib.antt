@@ -1,10 +1,10 @@
 pub mod Conversion
+pub mod NamedText
 pub mod Command
 pub mod Line
 pub mod Text
 pub mod Info
 pub mod Check
-pub mod LocalTime
 pub mod Local
 pub mod NamedZone
 pub mod Dump

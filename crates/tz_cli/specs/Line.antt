@@ -1,5 +1,5 @@
 -- How answers are printed: each as one line.
-use Rattle.std.specs.Prelude.{ℕ, List, ◌++◌, length, codes, ℤ}
+use Rattle.std.specs.Prelude.{ℕ, zero, suc, List, [], ◌++◌, length, codes, ℤ}
 use Rattle.std.specs.List.{sum_by}
 use Rattle.std.specs.Fmt.{decimal, signed_decimal}
 use Rattle.tz_types.specs.declared.range.SysInfo.{SysInfo}
@@ -42,7 +42,13 @@ check_line db =
     codes "ok " ++ db.version ++ codes " rules " ++ decimal (rule_count db) ++ codes " zones "
     ++ decimal (length db.zones) ++ codes " links " ++ decimal (length db.links) ++ codes "\n"
 
--- a word, then `LINE CAUSE`: the line at which a text is refused, and the number of the cause
+-- ` in F` where the fault is in a file of that number; 0 stands for the one file there is
+abbrev pub in_file : ℕ → List ℕ
+in_file zero = []
+in_file (suc file) = codes " in " ++ decimal (suc file)
+
+-- a word, then `LINE CAUSE`, and ` in F` where there are several files: the line at which a text is refused, the number of the
+-- cause, and the file's number
 unfoldable pub fault_line : List ℕ → Fault → List ℕ
 fault_line word fault =
-    word ++ codes " " ++ decimal fault.line ++ codes " " ++ decimal fault.cause ++ codes "\n"
+    word ++ codes " " ++ decimal fault.line ++ codes " " ++ decimal fault.cause ++ in_file fault.file ++ codes "\n"

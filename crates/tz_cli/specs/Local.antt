@@ -1,8 +1,9 @@
--- What `local` answers over a text.
+-- What `local` answers over a source.
 use Rattle.std.specs.Prelude.{◌≡◌, ℕ, List, ℤ, Option, Some, None, IsSome, slice_get, codes}
 use Rattle.tz_types.specs.declared.range.LocalInfo.{LocalInfo}
 use Rattle.tz_types.specs.declared.range.Choose.{Choose}
 use Rattle.tz_types.specs.declared.range.Choose.TheVariants.{Earliest, Latest}
+use Rattle.tz_types.specs.declared.source.Source.{Source}
 use Rattle.tz_types.specs.declared.zone.Zone.{Zone}
 use Rattle.tz_types.specs.declared.database.Db.{Db}
 use Rattle.tz_specs.specs.Expansion.{periods_of, full_expansion}
@@ -19,10 +20,10 @@ use Rattle.tz_cli.specs.Info.{HasNoZone}
 use Rattle.tz_cli.specs.declared.status.Status.{Status}
 use Rattle.tz_cli.specs.declared.status.Status.TheVariants as statuses
 
--- The local time is in range, and that is what the full expansion of the zone named, of the text, tells of it.
-pub record HasLocalInfo (text name : List ℕ) (l : ℤ) (info : LocalInfo) : Type 0 where
+-- The local time is in range, and that is what the full expansion of the zone named, of the source, tells of it.
+pub record HasLocalInfo (source : Source) (name : List ℕ) (l : ℤ) (info : LocalInfo) : Type 0 where
   pub db : Db
-  pub reads : Reads text db
+  pub reads : Reads source db
   pub place : ℕ
   pub named : located db name ≡ Some place
   pub zone : Zone
@@ -47,20 +48,20 @@ abbrev pub IsUndecidedLine : Choice → LocalInfo → List ℕ → Type 0
 IsUndecidedLine choice info line =
     (choice ≡ choices.Strict) × IsNotUnique info × (line ≡ local_line info)
 
--- The text has the zone, and the local time is out of range.
-pub record IsOutOfLocalTime (text name : List ℕ) (l : ℤ) : Type 0 where
+-- The source has the zone, and the local time is out of range.
+pub record IsOutOfLocalTime (source : Source) (name : List ℕ) (l : ℤ) : Type 0 where
   pub db : Db
-  pub reads : Reads text db
+  pub reads : Reads source db
   pub there : IsSome (located db name)
   pub outside : ¬ (IsLocalTime l)
 
--- the statuses of `local`, each with its line and its reason in the text
-abbrev pub LocalAnswers : List ℕ → List ℕ → ℤ → Choice → Status → List ℕ → Type 0
-LocalAnswers text name l choice statuses.Ok line =
-    (info : LocalInfo) × HasLocalInfo text name l info × IsLocalLine choice info l line
-LocalAnswers text name l choice statuses.Text line = IsTextRefusal text line
-LocalAnswers text name l choice statuses.NoZone line = HasNoZone text name × (line ≡ codes "nozone\n")
-LocalAnswers text name l choice statuses.Range line = IsOutOfLocalTime text name l × (line ≡ codes "range\n")
-LocalAnswers text name l choice statuses.Local line =
-    (info : LocalInfo) × HasLocalInfo text name l info × IsUndecidedLine choice info line
-LocalAnswers text name l choice _ line = ⊥
+-- the statuses of `local`, each with its line and its reason in the source
+abbrev pub LocalAnswers : Source → List ℕ → ℤ → Choice → Status → List ℕ → Type 0
+LocalAnswers source name l choice statuses.Ok line =
+    (info : LocalInfo) × HasLocalInfo source name l info × IsLocalLine choice info l line
+LocalAnswers source name l choice statuses.Text line = IsTextRefusal source line
+LocalAnswers source name l choice statuses.NoZone line = HasNoZone source name × (line ≡ codes "nozone\n")
+LocalAnswers source name l choice statuses.Range line = IsOutOfLocalTime source name l × (line ≡ codes "range\n")
+LocalAnswers source name l choice statuses.Local line =
+    (info : LocalInfo) × HasLocalInfo source name l info × IsUndecidedLine choice info line
+LocalAnswers source name l choice _ line = ⊥

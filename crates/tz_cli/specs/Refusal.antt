@@ -1,10 +1,10 @@
 -- Why a command has no text, and what it prints in the place of one.
-use Rattle.std.specs.Prelude.{ℕ, ◌<◌, List, length, Option, IsSomeAnd, Result, Ok, Err, Vec, codes}
+use Rattle.std.specs.Prelude.{ℕ, ◌<◌, List, length, Option, Result, Ok, Err, Vec, codes}
 use Rattle.std.specs.declared.alloc.Global.{Global}
+use Rattle.tz_types.specs.declared.source.Source.{Source}
 use Rattle.tz_cli.specs.Line.{fault_line}
 use Rattle.tz_specs.specs.Reads as texts
-use Rattle.tz_cli.specs.Answer.{most_bytes}
-use Rattle.tz_cli.specs.Outcome.{Contents, MayRead}
+use Rattle.tz_cli.specs.Outcome.{FileContents, MayRead, FailsToRead, ReadsTooMuch}
 use Rattle.tz_cli.specs.declared.status.Status.{Status}
 use Rattle.tz_cli.specs.declared.status.Status.TheVariants as statuses
 use Rattle.tz_cli.specs.declared.refusal.Refusal.{Refusal}
@@ -40,11 +40,11 @@ abbrev pub Gives : (Status → List ℕ → Type 0) → Result (Vec ℕ Global) 
 Gives answers (Ok line) = answers statuses.Ok line.items
 Gives answers (Err refusal) = Refuses answers refusal
 
--- want of memory, or the text is refused
-abbrev pub RefusesAsText : List ℕ → Refusal → Type 0
-RefusesAsText text refusals.Memory = Unit {0}
-RefusesAsText text (refusals.Text fault) = texts.Refuses text fault
-RefusesAsText text _ = ⊥
+-- want of memory, or the source is refused
+abbrev pub RefusesAsText : Source → Refusal → Type 0
+RefusesAsText source refusals.Memory = Unit {0}
+RefusesAsText source (refusals.Text fault) = texts.Refuses source fault
+RefusesAsText source _ = ⊥
 
 -- want of memory, or out of range for that reason
 abbrev pub RefusesRange : Type 0 → Refusal → Type 0
@@ -52,10 +52,18 @@ RefusesRange reason refusals.Memory = Unit {0}
 RefusesRange reason refusals.Range = reason
 RefusesRange reason _ = ⊥
 
--- want of memory, or the file gave no content, or gave one that is too large
-abbrev pub RefusesContent : Option Contents → Option (List ℕ) → (List ℕ → Type 0) → Refusal → Type 0
-RefusesContent told source failed refusals.Memory = Unit {0}
-RefusesContent told source failed refusals.Read = IsSomeAnd source failed
-RefusesContent told source failed refusals.TooLarge =
-    (content : List ℕ) × MayRead told source content × (most_bytes < length content)
-RefusesContent told source failed _ = ⊥
+-- want of memory, or a file gave no content, or the files gave too much
+abbrev pub RefusesContents : Option FileContents → List (List ℕ) → (List ℕ → Type 0) → Refusal → Type 0
+RefusesContents told names failed refusals.Memory = Unit {0}
+RefusesContents told names failed refusals.Read = FailsToRead told names failed
+RefusesContents told names failed refusals.TooLarge =
+    (contents : List (List ℕ)) × ReadsTooMuch told names contents
+RefusesContents told names failed _ = ⊥
+
+-- want of memory, or the file gave no content, or one of more bytes than were left
+abbrev pub RefusesFile : Option FileContents → List ℕ → ℕ → Type 0 → Refusal → Type 0
+RefusesFile told name left failed refusals.Memory = Unit {0}
+RefusesFile told name left failed refusals.Read = failed
+RefusesFile told name left failed refusals.TooLarge =
+    (content : List ℕ) × MayRead told name content × (left < length content)
+RefusesFile told name left failed _ = ⊥

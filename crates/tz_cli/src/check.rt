@@ -1,4 +1,3 @@
-ghost use Rattle.std.specs.Prelude.{◌≤◌, length};
 ghost use Rattle.tz_cli.specs.Check.{CheckAnswers};
 ghost use Rattle.tz_cli.specs.Refusal.{Gives};
 
@@ -6,13 +5,13 @@ use crate::line::check_line;
 use crate::refusal::Refusal;
 use crate::text::database_of;
 use std::alloc::Global;
+use tz_types::Source;
 
-/// The line that `check` prints: the version of the text, and how many rules, zones and links it has.
-pub fn check(alloc: Global, text: &[u8]) -> Result<Vec<u8>, Refusal>
-    requires { length text.now ≤ 4_194_304 }
-    ensures { Gives (CheckAnswers text.now) result }
+/// The line that `check` prints: the version of the source, and how many rules, zones and links it has.
+pub fn check(alloc: Global, source: &Source) -> Result<Vec<u8>, Refusal>
+    ensures { Gives (CheckAnswers source.now) result }
 {
-    let db = match database_of(alloc, text) {
+    let db = match database_of(alloc, source) {
         Ok(db) => db,
         Err(refusal) => return Err(refusal),
     };

@@ -1,18 +1,18 @@
-ghost use Rattle.std.specs.Prelude.{◌≡◌, ◌<◌, ◌≤◌, ◌↔◌, length, IsTrue, IsSome};
+ghost use Rattle.std.specs.Prelude.{◌≡◌, ◌<◌, ◌↔◌, IsSome, IfOk, IfErr};
 ghost use Rattle.tz_specs.specs.Expansion.{IsInstant, range_at};
 ghost use Rattle.tz_expand.specs.Zone.{expansion_of};
 ghost use Rattle.tz_cli.specs.Info.{InfoAnswers};
-ghost use Rattle.tz_cli.specs.Refusal.{Gives};
+ghost use Rattle.tz_cli.specs.NamedZone.{IsRangeLine};
+ghost use Rattle.tz_cli.specs.Refusal.{Gives, RefusesRange};
 
 use crate::line::range_line;
+use crate::named_zone::named_zone;
 use crate::refusal::Refusal;
-use crate::text::database_of;
 use std::alloc::Global;
 use std::marker::Brand;
 use std::sync::ledger::{Blank, Ledger};
-use tz_expand::{CompiledZone, compile, info_at};
-use tz_lines::locate;
-use tz_types::{Steps, SysInfo};
+use tz_expand::{CompiledZone, info_at};
+use tz_types::{Source, Steps, SysInfo};
 
 /// The range of the zone that holds an instant, where nobody asks for the count of steps.
 fn info_uncounted<L: Ledger>(zone: &CompiledZone, instant: i64, blank: Blank) -> Option<SysInfo>
@@ -26,28 +26,26 @@ fn info_uncounted<L: Ledger>(zone: &CompiledZone, instant: i64, blank: Blank) ->
     info_at(zone, instant, &mut steps)
 }
 
-/// The line that `info` prints: that of the range of the zone which holds the instant.
-pub fn info(alloc: Global, text: &[u8], name: &[u8], instant: i64) -> Result<Vec<u8>, Refusal>
-    requires { length text.now ≤ 4_194_304 }
-    ensures { Gives (InfoAnswers text.now name.now instant) result }
+/// The line of the range of the zone which holds an instant.
+fn info_in(alloc: Global, zone: &CompiledZone, instant: i64) -> Result<Vec<u8>, Refusal>
+    ensures line { IfOk result (λ line. IsRangeLine zone.now instant line.items) }
+    ensures refused { IfErr result (λ refusal. RefusesRange (¬ (IsInstant instant)) refusal) }
 {
-    let db = match database_of(alloc, text) {
-        Ok(db) => db,
-        Err(refusal) => return Err(refusal),
-    };
-    let place = match locate(&db, name) {
-        Some(place) => place,
-        None => return Err(Refusal::NoZone),
-    };
-    let Ok(zone) = compile(alloc, &db, place) else {
-        return Err(Refusal::Memory);
-    };
-    let range = match info_uncounted::<Brand>(&zone, instant, Blank::new(1)) {
-        Some(range) => range,
-        None => return Err(Refusal::Range),
+    let Some(range) = info_uncounted::<Brand>(zone, instant, Blank::new(1)) else {
+        return Err(Refusal::Range);
     };
     match range_line(alloc, &range) {
         Ok(line) => Ok(line),
         Err(_) => Err(Refusal::Memory),
+    }
+}
+
+/// The line that `info` prints: that of the range of the zone named which holds the instant.
+pub fn info(alloc: Global, source: &Source, name: &[u8], instant: i64) -> Result<Vec<u8>, Refusal>
+    ensures { Gives (InfoAnswers source.now name.now instant) result }
+{
+    match named_zone(alloc, source, name) {
+        Ok(zone) => info_in(alloc, &zone, instant),
+        Err(refusal) => Err(refusal),
     }
 }

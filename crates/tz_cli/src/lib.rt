@@ -3,18 +3,17 @@
 //! `run_plain` does a whole command: `info TEXT ZONE T` prints the range of a zone that holds an instant, `local TEXT ZONE L
 //! CHOICE` the ranges that show a local time or the instant that it stands for, `dump TEXT FROM TO ZONE` all ranges that meet
 //! a stretch of time, `check TEXT` the counts of what a text has, and `clock LEAPS CONV X` a count of one clock by that of
-//! another. A command that is refused prints why.
+//! another. TEXT names up to sixteen files with commas between, and `=VERSION,` before them gives the text's version. A command
+//! that is refused prints why.
 #![tactic(auto)]
 
 mod check;
-mod civil_word;
 mod clock;
 mod command_line;
 mod dump;
 mod info;
 mod line;
 mod local;
-mod local_time;
 mod named_zone;
 mod output;
 mod printing;
@@ -22,6 +21,7 @@ mod reading;
 mod refusal;
 mod status;
 mod text;
+mod text_word;
 mod top;
 mod words;
 mod zone_dump;

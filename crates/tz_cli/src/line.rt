@@ -1,6 +1,6 @@
 ghost use Rattle.std.specs.Prelude.{◌≡◌, ◌≤◌, ◌<◌, ◌*◌, ◌^◌, ◌++◌, IfOk, OnOk};
 ghost use Rattle.std.specs.Fmt.{decimal};
-ghost use Rattle.tz_cli.specs.Line.{range_line, local_line, sys_line, number_line, leap_line, rule_count, check_line, fault_line};
+ghost use Rattle.tz_cli.specs.Line.{range_line, local_line, sys_line, number_line, leap_line, rule_count, check_line, in_file, fault_line};
 
 use std::alloc::Global;
 use tz_output::{put_leap_info, put_local_info, put_range};
@@ -94,6 +94,17 @@ pub fn check_line(alloc: Global, db: &Db) -> Result<Vec<u8>, NoMemory>
     Ok(line)
 }
 
+/// Puts ` in F` at the end of a line, where the fault is in a file of that number.
+fn put_file(line: &mut Vec<u8>, file: u32) -> Result<(), NoMemory>
+    ensures { OnOk result (line.new.items ≡ line.old.items ++ in_file file) }
+{
+    if file == 0 {
+        return Ok(());
+    }
+    line.extend_from_slice(b" in ")?;
+    put_number(line, i64::from(file))
+}
+
 /// The line of a fault, behind a word.
 #[tactic(auto, unfolding(crate::specs::Line::fault_line))]
 pub fn fault_line(alloc: Global, word: &[u8], fault: Fault) -> Result<Vec<u8>, NoMemory>
@@ -104,6 +115,7 @@ pub fn fault_line(alloc: Global, word: &[u8], fault: Fault) -> Result<Vec<u8>, N
     put_number(&mut line, i64::from(fault.line))?;
     line.extend_from_slice(b" ")?;
     put_number(&mut line, i64::from(fault.cause))?;
+    put_file(&mut line, fault.file)?;
     line.extend_from_slice(b"\n")?;
     Ok(line)
 }

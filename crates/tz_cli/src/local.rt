@@ -1,9 +1,9 @@
-ghost use Rattle.std.specs.Prelude.{◌≡◌, ◌≤◌, length, false, IfOk, IfErr};
+ghost use Rattle.std.specs.Prelude.{◌≡◌, false, IfOk, IfErr};
 ghost use Rattle.tz_types.specs.declared.range.LocalInfo.{LocalInfo};
 ghost use Rattle.tz_local.specs.LocalTime.{IsLocalTime};
 ghost use Rattle.tz_cli.specs.Line.{local_line};
 ghost use Rattle.tz_cli.specs.Local.{LocalAnswers};
-ghost use Rattle.tz_cli.specs.NamedZone.{Tells, IsLocalOutput, IsInstantOutput};
+ghost use Rattle.tz_cli.specs.NamedZone.{IsToldOf, IsLocalOutput, IsInstantOutput};
 ghost use Rattle.tz_cli.specs.Output.{GivesOutput, is_in_pieces};
 ghost use Rattle.tz_cli.specs.Refusal.{RefusesRange};
 
@@ -15,11 +15,11 @@ use std::alloc::Global;
 use tz_expand::CompiledZone;
 use tz_local::{ToSysError, local_info, to_sys};
 use tz_output::Choice;
-use tz_types::Choose;
+use tz_types::{Choose, Source};
 
 /// The line that tells which ranges of the zone show a local time.
 fn info_line(alloc: Global, zone: &CompiledZone, l: i64) -> Result<Vec<u8>, Refusal>
-    ensures line { IfOk result (λ line. (info : LocalInfo) × Tells zone.now l info × (line.items ≡ local_line info)) }
+    ensures line { IfOk result (λ line. (info : LocalInfo) × IsToldOf zone.now l info × (line.items ≡ local_line info)) }
     ensures refused { IfErr result (λ refusal. RefusesRange (¬ (IsLocalTime l)) refusal) }
 {
     let Ok(info) = local_info(zone, l) else {
@@ -73,16 +73,15 @@ fn local_in(alloc: Global, zone: &CompiledZone, l: i64, choice: Choice) -> Resul
 /// What `local` prints: the instant of a local time in the zone named, or what there is to know of the time.
 pub fn local(
     alloc: Global,
-    text: &[u8],
+    source: &Source,
     name: &[u8],
     l: i64,
     choice: Choice,
 ) -> Result<Output, Refusal>
-    requires { length text.now ≤ 4_194_304 }
-    ensures answers { GivesOutput (LocalAnswers text.now name.now l choice) result }
+    ensures answers { GivesOutput (LocalAnswers source.now name.now l choice) result }
     ensures pieces { IfOk result (λ output. is_in_pieces output ≡ false) }
 {
-    match named_zone(alloc, text, name) {
+    match named_zone(alloc, source, name) {
         Ok(zone) => local_in(alloc, &zone, l, choice),
         Err(refusal) => Err(refusal),
     }

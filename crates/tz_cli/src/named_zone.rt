@@ -1,4 +1,4 @@
-ghost use Rattle.std.specs.Prelude.{◌≤◌, length, IfOk, IfErr};
+ghost use Rattle.std.specs.Prelude.{IfOk, IfErr};
 ghost use Rattle.tz_cli.specs.NamedZone.{IsNamedZone, RefusesZone};
 
 use crate::refusal::Refusal;
@@ -6,14 +6,14 @@ use crate::text::database_of;
 use std::alloc::Global;
 use tz_expand::{CompiledZone, compile};
 use tz_lines::locate;
+use tz_types::Source;
 
-/// The zone of a text that a name stands for, ready for questions.
-pub fn named_zone(alloc: Global, text: &[u8], name: &[u8]) -> Result<CompiledZone, Refusal>
-    requires { length text.now ≤ 4_194_304 }
-    ensures ok { IfOk result (λ zone. IsNamedZone text.now name.now zone) }
-    ensures refused { IfErr result (λ refusal. RefusesZone text.now name.now refusal) }
+/// The zone of a source that a name stands for, ready for questions.
+pub fn named_zone(alloc: Global, source: &Source, name: &[u8]) -> Result<CompiledZone, Refusal>
+    ensures ok { IfOk result (λ zone. IsNamedZone source.now name.now zone) }
+    ensures refused { IfErr result (λ refusal. RefusesZone source.now name.now refusal) }
 {
-    let db = match database_of(alloc, text) {
+    let db = match database_of(alloc, source) {
         Ok(db) => db,
         Err(refusal) => return Err(refusal),
     };

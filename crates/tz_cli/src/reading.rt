@@ -1,47 +1,105 @@
-ghost use Rattle.std.specs.Prelude.{◌≡◌, ◌≤◌, Some, length, IfOk, IfErr};
-ghost use Rattle.tz_cli.specs.Command.{source, meant};
-ghost use Rattle.tz_cli.specs.Outcome.{MayRead, Failed};
-ghost use Rattle.tz_cli.specs.Refusal.{RefusesContent};
+//! The files that a command reads, one after another.
+ghost use Rattle.std.specs.Prelude.{◌≡◌, ◌≤◌, ℕ, List, ◌∷◌, [], length, IfOk, IfErr, OnOk};
+ghost use Rattle.tz_types.specs.Limit.{most_bytes};
+ghost use Rattle.tz_types.specs.Source.{bytes_together};
+ghost use Rattle.tz_cli.specs.NamedText.{parts_of};
+ghost use Rattle.tz_cli.specs.Command.{files_of, meant};
+ghost use Rattle.tz_cli.specs.Outcome.{MayRead, MayReadAll, Failed};
+ghost use Rattle.tz_cli.specs.Refusal.{RefusesFile, RefusesContents};
 
 use crate::command_line::CommandLine;
 use crate::refusal::Refusal;
+use crate::text_word::first_name;
 use std::alloc::Global;
 use tz_io::{FileError, Files};
+use tz_types::{Items, MOST_BYTES, Text};
 
-/// The most bytes of a text.
-const MOST_BYTES: usize = 4_194_304;
-
-/// The content of a file, where it isn't too large for a text.
-fn read_file<F: Files>(alloc: Global, name: &str, files: &mut F) -> Result<Vec<u8>, Refusal>
-    ensures content { IfOk result (λ content. MayRead (F.told files.old) (Some name.now) content.items) }
-    ensures short { IfOk result (λ content. length content.items ≤ 4_194_304) }
-    ensures refused { IfErr result (λ refusal. RefusesContent (F.told files.old) (Some name.now) (Failed (F.faults files.old) (F.faults files.new)) refusal) }
+/// The content of a file, where it has no more bytes than are left to read.
+fn read_file<F: Files>(
+    alloc: Global,
+    name: &str,
+    left: usize,
+    files: &mut F,
+) -> Result<Vec<u8>, Refusal>
+    requires { left ≤ most_bytes }
+    ensures content { IfOk result (λ content. MayRead (F.told files.old) name.now content.items) }
+    ensures short { IfOk result (λ content. length content.items ≤ left) }
+    ensures unharmed { OnOk result ((other : List ℕ) → F.faults files.new other ≡ F.faults files.old other) }
+    ensures refused { IfErr result (λ refusal. RefusesFile (F.told files.old) name.now left (Failed (F.faults files.old) (F.faults files.new) name.now) refusal) }
     ensures told { F.told files.new ≡ F.told files.old }
 {
-    let content = match files.read(alloc, name, MOST_BYTES) {
-        Ok(content) => content,
+    let content = match files.read(alloc, name, left) {
+        Ok(bytes) => bytes,
         Err(FileError::NoMemory) => return Err(Refusal::Memory),
         Err(FileError::Failed) => return Err(Refusal::Read),
     };
-    if content.len() > MOST_BYTES {
+    if content.len() > left {
         return Err(Refusal::TooLarge);
     }
     Ok(content)
 }
 
-/// The content that a command reads: that of its file, or no bytes where it reads none.
-pub fn content_of<F: Files>(
+/// The contents of files whose names have commas between, where they aren't too large together. Each file is read with the limit
+/// that the earlier ones leave.
+fn read_files<F: Files>(alloc: Global, names: &str, files: &mut F) -> Result<Items<Text>, Refusal>
+    ensures contents { IfOk result (λ contents. MayReadAll (F.told files.old) (parts_of names.now) contents) }
+    ensures short { IfOk result (λ contents. bytes_together contents ≤ most_bytes) }
+    ensures refused { IfErr result (λ refusal. RefusesContents (F.told files.old) (parts_of names.now) (Failed (F.faults files.old) (F.faults files.new)) refusal) }
+    ensures told { F.told files.new ≡ F.told files.old }
+{
+    let mut contents = Items::new(alloc);
+    let mut left = MOST_BYTES;
+    let mut rest = Some(names);
+    while let Some(names) = rest {
+        let (name, later) = first_name(names);
+        let content = match read_file(alloc, name, left, files) {
+            Ok(content) => content,
+            Err(refusal) => return Err(refusal),
+        };
+        left -= content.len();
+        if contents.push(Items::from_vec(content)).is_err() {
+            return Err(Refusal::Memory);
+        }
+        rest = later;
+    }
+    Ok(contents)
+}
+
+/// The content of the one file of that name.
+fn read_one<F: Files>(alloc: Global, name: &str, files: &mut F) -> Result<Items<Text>, Refusal>
+    ensures contents { IfOk result (λ contents. MayReadAll (F.told files.old) (name.now ∷ []) contents) }
+    ensures short { IfOk result (λ contents. bytes_together contents ≤ most_bytes) }
+    ensures refused { IfErr result (λ refusal. RefusesContents (F.told files.old) (name.now ∷ []) (Failed (F.faults files.old) (F.faults files.new)) refusal) }
+    ensures told { F.told files.new ≡ F.told files.old }
+{
+    let content = match read_file(alloc, name, MOST_BYTES, files) {
+        Ok(content) => content,
+        Err(refusal) => return Err(refusal),
+    };
+    let mut contents = Items::new(alloc);
+    if contents.push(Items::from_vec(content)).is_err() {
+        return Err(Refusal::Memory);
+    }
+    Ok(contents)
+}
+
+/// The contents of the files that a command reads. `clock` with `-` reads none.
+pub fn contents_of<F: Files>(
     alloc: Global,
     command: CommandLine<'_>,
     files: &mut F,
-) -> Result<Vec<u8>, Refusal>
-    ensures content { IfOk result (λ content. MayRead (F.told files.old) (source (meant command.entry)) content.items) }
-    ensures short { IfOk result (λ content. length content.items ≤ 4_194_304) }
-    ensures refused { IfErr result (λ refusal. RefusesContent (F.told files.old) (source (meant command.entry)) (Failed (F.faults files.old) (F.faults files.new)) refusal) }
+) -> Result<Items<Text>, Refusal>
+    ensures contents { IfOk result (λ contents. MayReadAll (F.told files.old) (files_of (meant command.entry)) contents) }
+    ensures short { IfOk result (λ contents. bytes_together contents ≤ most_bytes) }
+    ensures refused { IfErr result (λ refusal. RefusesContents (F.told files.old) (files_of (meant command.entry)) (Failed (F.faults files.old) (F.faults files.new)) refusal) }
     ensures told { F.told files.new ≡ F.told files.old }
 {
-    match command.source() {
-        Some(name) => read_file(alloc, name, files),
-        None => Ok(Vec::new(alloc)),
+    match command {
+        CommandLine::Info { text, .. }
+        | CommandLine::Local { text, .. }
+        | CommandLine::Dump { text, .. }
+        | CommandLine::Check { text } => read_files(alloc, text.names, files),
+        CommandLine::Clock { leaps: "-", .. } => Ok(Items::new(alloc)),
+        CommandLine::Clock { leaps, .. } => read_one(alloc, leaps, files),
     }
 }

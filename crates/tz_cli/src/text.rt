@@ -1,4 +1,4 @@
-ghost use Rattle.std.specs.Prelude.{◌≤◌, length, IsTrue, IfOk, IfErr};
+ghost use Rattle.std.specs.Prelude.{IsTrue, IfOk, IfErr};
 ghost use Rattle.tz_specs.specs.Reads.{Reads};
 ghost use Rattle.tz_specs.specs.Sound.{is_sound};
 ghost use Rattle.tz_cli.specs.Refusal.{RefusesAsText};
@@ -6,16 +6,15 @@ ghost use Rattle.tz_cli.specs.Refusal.{RefusesAsText};
 use crate::refusal::Refusal;
 use std::alloc::Global;
 use tz_lines::{ReadError, read_zones};
-use tz_types::Db;
+use tz_types::{Db, Source};
 
-/// What a text says, or its refusal.
-pub fn database_of(alloc: Global, text: &[u8]) -> Result<Db, Refusal>
-    requires { length text.now ≤ 4_194_304 }
-    ensures ok { IfOk result (λ db. Reads text.now db) }
+/// What a source says, or its refusal.
+pub fn database_of(alloc: Global, source: &Source) -> Result<Db, Refusal>
+    ensures ok { IfOk result (λ db. Reads source.now db) }
     ensures sound { IfOk result (λ db. IsTrue (is_sound db)) }
-    ensures refused { IfErr result (λ refusal. RefusesAsText text.now refusal) }
+    ensures refused { IfErr result (λ refusal. RefusesAsText source.now refusal) }
 {
-    match read_zones(alloc, text) {
+    match read_zones(alloc, source) {
         Ok(db) => Ok(db),
         Err(ReadError::NoMemory) => Err(Refusal::Memory),
         Err(ReadError::Fault(fault)) => Err(Refusal::Text(fault)),

@@ -1,9 +1,12 @@
-ghost use Rattle.std.specs.Prelude.{◌≡◌, ◌≢◌, ◌⊎◌, ◌≤◌, ℕ, List, Some, length, IsSomeAnd, IfOk};
+ghost use Rattle.std.specs.Prelude.{◌≡◌, ◌≢◌, ◌⊎◌, ◌≤◌, ℕ, List, length, IfOk};
+ghost use Rattle.std.specs.List.{AllZip, Any, concat};
+ghost use Rattle.tz_types.specs.Limit.{most_bytes};
+ghost use Rattle.tz_types.specs.Source.{bytes_together};
 ghost use Rattle.tz_io.specs.Counts.{Rose};
 ghost use Rattle.tz_io.specs.Sink.{Appends, AppendsPart};
-ghost use Rattle.tz_cli.specs.Command.{Command, IsCommand, IsNoCommand, words_of, source, meant};
+ghost use Rattle.tz_cli.specs.Command.{Command, IsCommand, IsNoCommand, words_of, files_of, meant};
 ghost use Rattle.tz_cli.specs.Answer.{TextAnswers, IsAnswer, comes_in_pieces};
-ghost use Rattle.tz_cli.specs.Outcome.{told_content, Failed, IsDueFor, IsDue};
+ghost use Rattle.tz_cli.specs.Outcome.{Holds, Failed, IsDueFor, IsDue};
 ghost use Rattle.tz_cli.specs.Output.{GivesOutput, as_output, is_in_pieces};
 ghost use Rattle.tz_cli.specs.declared.status.Status.{Status};
 
@@ -14,7 +17,7 @@ use crate::info::info;
 use crate::local::local;
 use crate::output::{Output, print_output};
 use crate::printing::{print, print_refusal};
-use crate::reading::content_of;
+use crate::reading::contents_of;
 use crate::refusal::Refusal;
 use crate::words::command_of;
 use crate::zones::dump;
@@ -22,6 +25,7 @@ use crate::{Plain, Status};
 use std::alloc::Global;
 use std::thread::Threads;
 use tz_io::{Files, Sink};
+use tz_types::{Items, Text};
 
 /// A line that was made whole, or its refusal.
 fn line(outcome: Result<Vec<u8>, Refusal>) -> Result<Output, Refusal>
@@ -33,34 +37,55 @@ fn line(outcome: Result<Vec<u8>, Refusal>) -> Result<Output, Refusal>
     }
 }
 
-/// What a command comes to over a text.
-fn answer_over(alloc: Global, command: CommandLine<'_>, text: &[u8]) -> Result<Output, Refusal>
-    requires { length text.now ≤ 4_194_304 }
-    ensures answers { GivesOutput (TextAnswers (meant command.entry) text.now) result }
+/// What a command comes to over the contents of its files.
+fn answer_over(
+    alloc: Global,
+    command: CommandLine<'_>,
+    contents: Items<Text>,
+) -> Result<Output, Refusal>
+    requires each { length contents ≡ length (files_of (meant command)) }
+    requires few_bytes { bytes_together contents ≤ most_bytes }
+    ensures answers { GivesOutput (TextAnswers (meant command.entry) contents) result }
     ensures pieces { IfOk result (λ output. is_in_pieces output ≡ comes_in_pieces (meant command.entry)) }
 {
     match command {
-        CommandLine::Info { zone, instant, .. } => {
-            line(info(alloc, text, zone.as_bytes(), instant))
-        }
+        CommandLine::Info {
+            text,
+            zone,
+            instant,
+        } => line(info(alloc, &text.source(contents), zone.as_bytes(), instant)),
         CommandLine::Local {
+            text,
             zone,
             time,
             choice,
-            ..
-        } => local(alloc, text, zone.as_bytes(), time, choice),
-        CommandLine::Dump { from, to, zone, .. } => {
-            match dump(alloc, text, from, to, zone.as_bytes()) {
-                Ok(dump) => Ok(Output::Zones(dump)),
-                Err(refusal) => Err(refusal),
-            }
-        }
-        CommandLine::Check { .. } => line(check(alloc, text)),
+        } => local(alloc, &text.source(contents), zone.as_bytes(), time, choice),
+        CommandLine::Dump {
+            text,
+            from,
+            to,
+            zone,
+        } => match dump(alloc, &text.source(contents), from, to, zone.as_bytes()) {
+            Ok(dump) => Ok(Output::Zones(dump)),
+            Err(refusal) => Err(refusal),
+        },
+        CommandLine::Check { text } => line(check(alloc, &text.source(contents))),
         CommandLine::Clock {
             conversion,
             number,
             ..
-        } => line(clock(alloc, text, conversion, number)),
+        } => line(clock(alloc, leap_text(&contents), conversion, number)),
+    }
+}
+
+/// The bytes of the one file, or none where there is no file.
+fn leap_text(contents: &Items<Text>) -> &[u8]
+    requires { length contents.now ≤ 1 }
+    ensures { result.now ≡ concat contents.now }
+{
+    match contents.as_slice().first() {
+        Some(text) => text.as_slice(),
+        None => b"",
     }
 }
 
@@ -74,8 +99,8 @@ fn answer<F: Files>(
     ensures pieces { IfOk result (λ output. is_in_pieces output ≡ comes_in_pieces (meant command.entry)) }
     ensures told { F.told files.new ≡ F.told files.old }
 {
-    match content_of(alloc, command, files) {
-        Ok(text) => answer_over(alloc, command, text.as_slice()),
+    match contents_of(alloc, command, files) {
+        Ok(contents) => answer_over(alloc, command, contents),
         Err(refusal) => Err(refusal),
     }
 }
@@ -105,8 +130,9 @@ fn run_command<F: Files, S: Sink>(
 }
 
 /// Does a whole command, `info`, `local`, `dump`, `check` or `clock`, and answers its status. It prints the text of the command
-/// at `Ok`, what there is to know of the local time at `Local`, and else the line of the refusal. At `Write` a part of that was taken. `dump` prints what it has made before it makes
-/// the rest, so where memory runs out on the way its line stands behind a first part of the text.
+/// at `Ok`, what there is to know of the local time at `Local`, and else the line of the refusal. At `Write` a part of that was
+/// taken. `dump` prints what it has made before it makes the rest, so where memory runs out on the way its line stands behind a
+/// first part of the text.
 pub fn run_plain<F: Files, S: Sink>(
     rt: &(impl Threads + Sync),
     alloc: Global,
@@ -115,7 +141,7 @@ pub fn run_plain<F: Files, S: Sink>(
     sink: &mut S,
 ) -> Plain
     // All that was printed is the line that is due at the status, and the status has its reason: 0, 3, 8, 9 and
-    // 10 in the text, 11 in the size of the file, 5 in a fault of the file that was counted in this call.
+    // 10 in the text, 11 in the size of the files, 5 in a fault of the next file that was counted in this call.
     ensures whole { (status : Status) → result ≡ Plain.Done status → status ≢ Status.Write →
         (line : List ℕ) × IsDue (words_of words.now) (F.told files.old) (Failed (F.faults files.old) (F.faults files.new)) status line
         × Appends (S.taken sink.old) (S.taken sink.new) line }
@@ -131,11 +157,11 @@ pub fn run_plain<F: Files, S: Sink>(
     ensures usage { result ≡ Plain.Done Status.Usage → IsNoCommand (words_of words.now) }
     ensures no_command { IsNoCommand (words_of words.now) → (result ≡ Plain.Done Status.Usage) ⊎ (result ≡ Plain.Done Status.Write) }
 
-    // Where no fault and no stall was counted, an answer over the content has its status, but for want of memory.
-    ensures exact { (command : Command) (content : List ℕ) (status : Status) (line : List ℕ) →
-        IsCommand (words_of words.now) command → told_content (F.told files.old) (source command) ≡ Some content →
-        IsAnswer command content status line →
-        ¬ (IsSomeAnd (source command) (Failed (F.faults files.old) (F.faults files.new))) →
+    // Where no fault and no stall was counted, an answer over the contents has its status, but for want of memory.
+    ensures exact { (command : Command) (contents : List (List ℕ)) (status : Status) (line : List ℕ) →
+        IsCommand (words_of words.now) command → AllZip (Holds (F.told files.old)) (files_of command) contents →
+        IsAnswer command contents status line →
+        ¬ (Any (Failed (F.faults files.old) (F.faults files.new)) (files_of command)) →
         ¬ (Rose (S.faults sink.old) (S.faults sink.new)) → ¬ (Rose (S.stalls sink.old) (S.stalls sink.new)) →
         (result ≡ Plain.Done status) ⊎ (result ≡ Plain.Done Status.Memory) }
 

@@ -1,26 +1,30 @@
 ghost use Rattle.std.specs.Prelude.{ℕ, List, ℤ, IsNone, IfSome};
 ghost use Rattle.tz_cli.specs.Command.{IsInfo, IsLocalCommand, IsDumpCommand, IsCheck, IsClock, IsCommand, IsNoCommand, words_of, meant};
+ghost use Rattle.tz_cli.specs.NamedText.{NamedText};
 ghost use Rattle.tz_output.specs.declared.choice.Choice.{Choice};
 ghost use Rattle.tz_output.specs.declared.conversion.Conversion.{Conversion};
 
 use crate::command_line::CommandLine;
-use crate::local_time::local_time;
+use crate::text_word::TextWord;
 use tz_output::{Choice, Conversion};
-use tz_text::signed_number;
+use tz_text::{local_time, signed_number};
 
 /// `info TEXT ZONE T`.
 fn info(words: &[String]) -> Option<CommandLine<'_>>
     ensures some { IfSome result (λ command. IsCommand (words_of words.now) (meant command)) }
-    ensures none { IsNone result → (text zone : List ℕ) (instant : ℤ) → ¬ (IsInfo (words_of words.now) text zone instant) }
+    ensures none { IsNone result → (text : NamedText) (zone : List ℕ) (instant : ℤ) → ¬ (IsInfo (words_of words.now) text zone instant) }
 {
     match words {
         [keyword, text, zone, number] => {
             if keyword.as_str() != "info" {
                 return None;
             }
+            let Some(text) = TextWord::new(text.as_str()) else {
+                return None;
+            };
             match signed_number(number.as_bytes()) {
                 Some(instant) => Some(CommandLine::Info {
-                    text: text.as_str(),
+                    text,
                     zone: zone.as_str(),
                     instant,
                 }),
@@ -34,19 +38,22 @@ fn info(words: &[String]) -> Option<CommandLine<'_>>
 /// `local TEXT ZONE L CHOICE`.
 fn local(words: &[String]) -> Option<CommandLine<'_>>
     ensures some { IfSome result (λ command. IsCommand (words_of words.now) (meant command)) }
-    ensures none { IsNone result → (text zone : List ℕ) (l : ℤ) (choice : Choice) → ¬ (IsLocalCommand (words_of words.now) text zone l choice) }
+    ensures none { IsNone result → (text : NamedText) (zone : List ℕ) (l : ℤ) (choice : Choice) → ¬ (IsLocalCommand (words_of words.now) text zone l choice) }
 {
     match words {
         [keyword, text, zone, time, choice] => {
             if keyword.as_str() != "local" {
                 return None;
             }
+            let Some(text) = TextWord::new(text.as_str()) else {
+                return None;
+            };
             let Some(choice) = Choice::from_word(choice.as_str()) else {
                 return None;
             };
             match local_time(time.as_bytes()) {
                 Some(time) => Some(CommandLine::Local {
-                    text: text.as_str(),
+                    text,
                     zone: zone.as_str(),
                     time,
                     choice,
@@ -61,19 +68,22 @@ fn local(words: &[String]) -> Option<CommandLine<'_>>
 /// `dump TEXT FROM TO ZONE`.
 fn dump(words: &[String]) -> Option<CommandLine<'_>>
     ensures some { IfSome result (λ command. IsCommand (words_of words.now) (meant command)) }
-    ensures none { IsNone result → (text zone : List ℕ) (from to : ℤ) → ¬ (IsDumpCommand (words_of words.now) text from to zone) }
+    ensures none { IsNone result → (text : NamedText) (from to : ℤ) (zone : List ℕ) → ¬ (IsDumpCommand (words_of words.now) text from to zone) }
 {
     match words {
         [keyword, text, first, last, zone] => {
             if keyword.as_str() != "dump" {
                 return None;
             }
+            let Some(text) = TextWord::new(text.as_str()) else {
+                return None;
+            };
             let Some(from) = signed_number(first.as_bytes()) else {
                 return None;
             };
             match signed_number(last.as_bytes()) {
                 Some(to) => Some(CommandLine::Dump {
-                    text: text.as_str(),
+                    text,
                     from,
                     to,
                     zone: zone.as_str(),
@@ -88,16 +98,17 @@ fn dump(words: &[String]) -> Option<CommandLine<'_>>
 /// `check TEXT`.
 fn check(words: &[String]) -> Option<CommandLine<'_>>
     ensures some { IfSome result (λ command. IsCommand (words_of words.now) (meant command)) }
-    ensures none { IsNone result → (text : List ℕ) → ¬ (IsCheck (words_of words.now) text) }
+    ensures none { IsNone result → (text : NamedText) → ¬ (IsCheck (words_of words.now) text) }
 {
     match words {
         [keyword, text] => {
             if keyword.as_str() != "check" {
                 return None;
             }
-            Some(CommandLine::Check {
-                text: text.as_str(),
-            })
+            match TextWord::new(text.as_str()) {
+                Some(text) => Some(CommandLine::Check { text }),
+                None => None,
+            }
         }
         _ => None,
     }

@@ -13,7 +13,7 @@ use crate::text::database_of;
 use crate::zone_dump::ZoneDump;
 use std::alloc::Global;
 use tz_lines::locate;
-use tz_types::{Db, END_OF_TIME, FIRST_INSTANT};
+use tz_types::{Db, END_OF_TIME, FIRST_INSTANT, Source};
 
 /// The longest stretch of a dump of all zones, in seconds: some 272 years.
 const LONGEST: i64 = 8_589_934_592;
@@ -62,16 +62,15 @@ fn is_dumped(word: &[u8], from: i64, to: i64) -> bool
 /// What a dump prints: the zones that the word asks for, over a stretch.
 pub fn dump(
     alloc: Global,
-    text: &[u8],
+    source: &Source,
     from: i64,
     to: i64,
     word: &[u8],
 ) -> Result<ZoneDump, Refusal>
-    requires { length text.now ≤ 4_194_304 }
-    ensures ok { IfOk result (λ dump. IsDump text.now from to (asked_for word.now) (compiled_texts dump.from dump.to dump.zones.items)) }
-    ensures refused { IfErr result (λ refusal. Refuses (DumpAnswers text.now from to (asked_for word.now)) refusal) }
+    ensures ok { IfOk result (λ dump. IsDump source.now from to (asked_for word.now) (compiled_texts dump.from dump.to dump.zones.items)) }
+    ensures refused { IfErr result (λ refusal. Refuses (DumpAnswers source.now from to (asked_for word.now)) refusal) }
 {
-    let db = match database_of(alloc, text) {
+    let db = match database_of(alloc, source) {
         Ok(db) => db,
         Err(refusal) => return Err(refusal),
     };

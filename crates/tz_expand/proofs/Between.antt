@@ -1,28 +1,23 @@
 -- The ranges of a stretch, line by line from the last to the first, and the steps that they take.
-use Rattle.std.proofs.Common.{◌≡◌, ℕ, zero, suc, ◌+◌, ◌-◌, ◌*◌, ◌<◌, ◌≤◌, Bool, true, false, cond, ◌⊎◌, inl, inr, ⊎_elim, refl, sym, ap, ◌∙◌, arith, add-one, List, [], ◌∷◌, ◌++◌, length, take, drop, get_or, IsTrue, ℤ, pos, ◌+ℤ◌, ◌-ℤ◌, ◌<ℤ◌, ◌≤ℤ◌}
+use Rattle.std.proofs.Common.{◌≡◌, ℕ, zero, suc, ◌+◌, ◌*◌, ◌<◌, ◌≤◌, Bool, true, false, cond, inl, inr, refl, sym, ap, ◌∙◌, arith, add-one, List, [], ◌∷◌, ◌++◌, length, take, drop, get_or, ℤ, pos, ◌+ℤ◌, ◌-ℤ◌, ◌<ℤ◌, ◌≤ℤ◌}
 use Rattle.std.specs.Prelude.{filter, reverse, int_lt, if◌then◌else◌}
 use Rattle.std.specs.List.{count_by}
 use Rattle.std.specs.Int.{int_max, int_min}
-use Rattle.std.proofs.Math.Nat.{mul-le-mul_left, mul-le-mul_right, mul-le-mul, suc-mul}
-use Rattle.std.proofs.lemmas.Int.{ints, clamps}
+use Rattle.std.proofs.Math.Nat.{mul-le-mul_left, mul-le-mul_right, suc-mul}
+use Rattle.std.proofs.lemmas.Int.{ints}
 use Rattle.std.proofs.lemmas.List.{drop_more, drop_all, take_all, append-nil, reverse-append}
 use Rattle.std.proofs.lemmas.List.Elements.{filter-append}
 use Rattle.std.proofs.lemmas.List.Sums.{sum_by-cons}
-use Rattle.jiff_core.specs.Calendar.{IsYear}
-use Rattle.jiff_core.proofs.SignedLemmas.{signed_arith}
-use Rattle.tz_types.specs.Calendar.{LiesInYear}
 use Rattle.tz_types.specs.declared.range.SysInfo.{SysInfo}
 use Rattle.tz_types.specs.declared.rule_set.RuleSet.{RuleSet}
 use Rattle.tz_specs.specs.Occurrence.{Occurrence}
 use Rattle.tz_specs.specs.State.{InForce}
-use Rattle.tz_specs.specs.Until.{Following, Nothing, Fixed, Rules}
-use Rattle.tz_specs.specs.Expansion.{Period, first_instant, end_of_time, IsInstant, state_in, range_of, ranges_of, full_expansion}
-use Rattle.tz_specs.specs.Sound.{leads}
+use Rattle.tz_specs.specs.Until.{Nothing, Fixed, Rules}
+use Rattle.tz_specs.specs.Expansion.{first_instant, end_of_time, state_in, range_of, ranges_of, full_expansion}
 use Rattle.tz_specs.specs.RulesFollowed.{rules_followed, most_rules_followed}
-use Rattle.tz_specs.specs.Standing.{IsRangeOf}
 use Rattle.std.proofs.lemmas.Bool.{and_parts, and_from}
 use Rattle.tz_specs.proofs.Tests.{by_test, not_both, int_lt-true, lt-int_lt}
-use Rattle.tz_specs.proofs.ListLemmas.{In, In-filter_back, In-from_get, In-map}
+use Rattle.tz_specs.proofs.ListLemmas.{In, In-from_get, In-map}
 use Rattle.tz_specs.proofs.YearLemmas.{lies_in_some}
 use Rattle.tz_specs.proofs.RangeLemmas.{In-ranges_back, chain_takes_time}
 use Rattle.tz_specs.proofs.CoverLemmas.{leads-chains}
@@ -32,7 +27,7 @@ use Rattle.std.proofs.lemmas.Option.{slice_get_read}
 use Rattle.tz_expand.specs.declared.compiled_line.CompiledLine.{CompiledLine}
 use Rattle.tz_expand.specs.declared.compiled_zone.CompiledZone.{CompiledZone}
 use Rattle.tz_expand.specs.Followed.{followed_by}
-use Rattle.tz_expand.specs.Compiled.{period_of, periods, cover_time}
+use Rattle.tz_expand.specs.Compiled.{period_of, periods}
 use Rattle.tz_expand.specs.Looks.{AreLooksNear, AreLooksOf}
 use Rattle.tz_expand.specs.Stretch.{IsStretch, TouchesYears, meets, line_meets, ranges_between, lines_between}
 use Rattle.tz_specs.proofs.OccurrenceLemmas.{natural_of}

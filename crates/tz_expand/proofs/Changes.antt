@@ -1,18 +1,16 @@
 -- Each range of the stretch runs from where the occurrence in effect comes to the least instant of later ones.
-use Rattle.std.proofs.Common.{◌≡◌, ℕ, zero, suc, ◌+◌, ◌<◌, ◌≤◌, true, ◌⊎◌, inl, inr, ⊎_elim, refl, sym, ap, subst, ◌∙◌, arith, List, [], ◌∷◌, Some, ℤ, pos, ◌+ℤ◌, ◌-ℤ◌, ◌<ℤ◌, ◌≤ℤ◌}
+use Rattle.std.proofs.Common.{◌≡◌, ℕ, suc, ◌<◌, ◌≤◌, true, ◌⊎◌, inl, inr, ⊎_elim, refl, ◌∙◌, arith, List, Some, ℤ, pos, ◌<ℤ◌, ◌≤ℤ◌}
 use Rattle.std.specs.Prelude.{slice_get}
 use Rattle.std.specs.Int.{int_max}
 use Rattle.std.proofs.lemmas.Int.{ints, clamps, by_lt_z}
-use Rattle.std.proofs.lemmas.Option.{same_Some}
-use Rattle.jiff_core.specs.Calendar.{IsWithin}
 use Rattle.tz_types.specs.declared.rule_set.RuleSet.{RuleSet}
-use Rattle.tz_specs.specs.Occurrence.{Occurrence, nominal_of, precedes, occurrences}
+use Rattle.tz_specs.specs.Occurrence.{Occurrence, precedes, occurrences}
 use Rattle.tz_specs.specs.State.{instants, in_force, state_at, put_in_force, before_first}
 use Rattle.tz_specs.specs.Until.{Rules}
 use Rattle.tz_specs.specs.Expansion.{Period, state_in, range_of}
 use Rattle.tz_specs.specs.Standing.{IsOccurrence, IsRangeOf}
 use Rattle.tz_specs.specs.Effect.{ComesAt, IsInEffect, NoneInEffect}
-use Rattle.tz_specs.specs.Around.{IsToCome, IsNextChange, IsBeginAround, IsEndAround}
+use Rattle.tz_specs.specs.Around.{IsToCome, IsBeginAround, IsEndAround}
 use Rattle.tz_specs.proofs.Tests.{not_both}
 use Rattle.tz_specs.proofs.ListLemmas.{In, In-from_get, get_from_In, Pairs-get}
 use Rattle.tz_specs.proofs.OrderLemmas.{true-precedes, precedes_asym, precedes_trans}
@@ -20,7 +18,7 @@ use Rattle.tz_specs.proofs.EffectLemmas.{instants-get, instants-back, comes_once
 use Rattle.tz_specs.proofs.AroundLemmas.{range_around}
 use Rattle.tz_expand.proofs.Strict.{Before, place_before}
 use Rattle.tz_expand.proofs.Gathered.{Earlier, Later}
-use Rattle.tz_expand.proofs.Section.{Section, early, late, NoneBy, BaseAt, base_cases, AllBy, FirstAfter, after_cases, AtBase, at_base_more, earlier_by, IsFar, comes_or_far, computed_near, first_comes}
+use Rattle.tz_expand.proofs.Section.{Section, NoneBy, BaseAt, base_cases, AllBy, FirstAfter, after_cases, AtBase, at_base_more, earlier_by, IsFar, comes_or_far, computed_near, first_comes}
 
 -- the least of the instants from a place on, and of the line's end
 pub record EndsAt (us : List ℤ) (place : ℕ) (finish end : ℤ) : Type 0 where

@@ -1,13 +1,12 @@
 -- The looks at a set have all occurrences that may change the stretch, and of each rule one more before and behind.
-use Rattle.std.proofs.Common.{◌≡◌, ℕ, zero, suc, ◌+◌, ◌<◌, ◌≤◌, true, ◌⊎◌, inl, inr, ⊎_elim, refl, sym, ap, subst, ◌∙◌, arith, List, [], ◌∷◌, ◌++◌, ℤ, pos, ◌+ℤ◌, ◌-ℤ◌, ◌<ℤ◌, ◌≤ℤ◌}
-use Rattle.std.specs.Prelude.{flat_map}
+use Rattle.std.proofs.Common.{◌≡◌, ℕ, zero, suc, ◌<◌, ◌⊎◌, inl, inr, ⊎_elim, refl, sym, ap, subst, arith, List, [], ◌∷◌, ℤ, pos, ◌+ℤ◌, ◌-ℤ◌, ◌<ℤ◌, ◌≤ℤ◌}
 use Rattle.std.specs.List.Sorted.{IsPermutation}
 use Rattle.std.proofs.lemmas.Int.{ints, by_lt_z}
 use Rattle.std.proofs.lemmas.List.Sorted.{IsPermutation-sym, Contains-permutation}
 use Rattle.tz_types.specs.declared.rule.Rule.{Rule}
 use Rattle.tz_types.specs.declared.rule_set.RuleSet.{RuleSet}
 use Rattle.tz_types.specs.Year.{IsRuleYear}
-use Rattle.tz_specs.specs.Occurrence.{Occurrence, nominal_of, precedes}
+use Rattle.tz_specs.specs.Occurrence.{Occurrence, nominal_of}
 use Rattle.tz_specs.specs.Standing.{IsOccurrence}
 use Rattle.tz_specs.proofs.ListLemmas.{In, In-from_Contains, Contains-from_In, In-flat_map, In-flat_map_back, Pairs, Pairs-append, Pairs-flat_map}
 use Rattle.tz_specs.proofs.OrderLemmas.{Differs, true-precedes}

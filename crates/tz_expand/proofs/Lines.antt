@@ -1,6 +1,6 @@
 -- The line of a zone that holds an instant, and the range around an instant of a line.
-use Rattle.std.proofs.Common.{◌≡◌, ℕ, ◌+◌, ◌*◌, ◌<◌, ◌≤◌, Bool, true, false, ◌⊎◌, inl, inr, ⊎_elim, refl, sym, ap, ◌∙◌, arith, List, [], ◌∷◌, length, drop, get_or, IsTrue, Option, Some, None, ℤ, pos, ◌<ℤ◌, ◌≤ℤ◌}
-use Rattle.std.specs.Prelude.{IsNone, IfSome, slice_get}
+use Rattle.std.proofs.Common.{◌≡◌, ℕ, ◌+◌, ◌*◌, ◌<◌, ◌≤◌, Bool, false, ◌⊎◌, inl, inr, ⊎_elim, refl, sym, ap, ◌∙◌, arith, List, [], ◌∷◌, length, drop, get_or, IsTrue, Option, Some, None, ℤ, pos, ◌<ℤ◌, ◌≤ℤ◌}
+use Rattle.std.specs.Prelude.{IsNone, IfSome}
 use Rattle.std.specs.Int.{int_max, int_min}
 use Rattle.std.proofs.Math.Nat.{mul-le-mul}
 use Rattle.std.proofs.lemmas.Int.{ints, clamps, by_lt_z}
@@ -10,15 +10,15 @@ use Rattle.tz_types.specs.declared.range.SysInfo.{SysInfo}
 use Rattle.tz_types.specs.declared.rule.Rule.{Rule}
 use Rattle.tz_types.specs.declared.rule_set.RuleSet.{RuleSet}
 use Rattle.tz_rules.specs.declared.taken.Taken.{Taken}
-use Rattle.tz_rules.specs.Taken.{Tells, IsTakenAt, IsLastTaken, IsNextTaken}
+use Rattle.tz_rules.specs.Taken.{IsTakenAt, IsLastTaken, IsNextTaken}
 use Rattle.tz_specs.specs.Occurrence.{Occurrence, occurrences}
 use Rattle.tz_specs.specs.State.{InForce, instants, in_force, state_at, put_in_force, before_first}
 use Rattle.tz_specs.specs.Until.{Nothing, Fixed, Rules}
-use Rattle.tz_specs.specs.Expansion.{Period, first_instant, end_of_time, state_in, range_of, full_expansion, holds_instant, range_at}
+use Rattle.tz_specs.specs.Expansion.{Period, first_instant, end_of_time, state_in, range_of, holds_instant, range_at}
 use Rattle.tz_specs.specs.Sound.{leads}
 use Rattle.tz_specs.specs.RulesFollowed.{rules_followed, most_rules_followed}
 use Rattle.tz_specs.specs.Standing.{IsRangeOf}
-use Rattle.tz_specs.specs.Effect.{ComesAt, IsInEffect, NoneInEffect}
+use Rattle.tz_specs.specs.Effect.{ComesAt, NoneInEffect}
 use Rattle.tz_specs.specs.Around.{IsToCome, IsNextChange, IsBeginAround, IsEndAround}
 use Rattle.tz_specs.proofs.ListLemmas.{In, In-from_get, In-map}
 use Rattle.tz_specs.proofs.CoverLemmas.{leads-chains, true-holds, range_at-before, range_at-after}

@@ -1,7 +1,7 @@
 -- Which occurrences are looked at, and what is left out: of each rule only years before two that have come, and years
 -- behind one that hasn't.
-use Rattle.std.proofs.Common.{◌≡◌, ℕ, zero, suc, ◌+◌, ◌<◌, ◌≤◌, true, false, ◌⊎◌, inl, inr, ⊎_elim, refl, sym, ap, subst, ◌∙◌, arith, List, [], ◌∷◌, ◌++◌, length, ℤ, pos, negsuc, neg_ℤ, ◌+ℤ◌, ◌-ℤ◌, ◌<ℤ◌, ◌≤ℤ◌, append_assoc, append-nil, ◌*◌, add-one, take, get_or}
-use Rattle.std.specs.Prelude.{int_lt, unsigned_abs, flat_map}
+use Rattle.std.proofs.Common.{◌≡◌, ℕ, zero, suc, ◌+◌, ◌<◌, ◌≤◌, ◌⊎◌, inl, inr, ⊎_elim, refl, sym, ap, subst, ◌∙◌, arith, List, [], ◌∷◌, ◌++◌, length, ℤ, pos, negsuc, neg_ℤ, ◌+ℤ◌, ◌-ℤ◌, ◌<ℤ◌, ◌≤ℤ◌, append_assoc, append-nil, ◌*◌, add-one, take, get_or}
+use Rattle.std.specs.Prelude.{unsigned_abs, flat_map}
 use Rattle.std.proofs.Math.Nat.{suc-mul, mul-le-mul_right}
 use Rattle.std.proofs.lemmas.List.{take_more}
 use Rattle.std.specs.Int.{int_min, int_max}
@@ -11,19 +11,16 @@ use Rattle.jiff_core.specs.Calendar.{IsYear}
 use Rattle.jiff_core.proofs.SignedLemmas.{signed_arith}
 use Rattle.tz_types.specs.declared.calendar.Month.TheVariants as months
 use Rattle.tz_types.specs.declared.rule.Rule.{Rule}
-use Rattle.tz_types.specs.declared.rule_set.RuleSet.{RuleSet}
 use Rattle.tz_types.specs.Calendar.{year_start, LiesInYear}
 use Rattle.tz_types.specs.Year.{IsRuleYear}
-use Rattle.tz_specs.specs.Occurrence.{Occurrence, nominal_second, nominal_of, precedes}
-use Rattle.tz_specs.specs.Standing.{IsOccurrence}
-use Rattle.tz_specs.proofs.Tests.{by_test, le-int_lt, lt-int_lt, int_lt-false, int_lt-true}
-use Rattle.tz_specs.proofs.ListLemmas.{In, In-from_Contains, Contains-from_In, In-append_cases, In-append_left, In-append_right, In-flat_map, In-flat_map_back, Pairs, Pairs-append, Pairs-flat_map}
-use Rattle.tz_specs.proofs.OrderLemmas.{Differs, true-precedes}
+use Rattle.tz_specs.specs.Occurrence.{Occurrence, nominal_second}
+use Rattle.tz_specs.proofs.Tests.{le-int_lt, lt-int_lt}
+use Rattle.tz_specs.proofs.ListLemmas.{In, In-append_cases, In-append_left, In-append_right}
 use Rattle.tz_specs.proofs.DayLemmas.{civil_day_rises, nominal_near}
-use Rattle.tz_specs.proofs.OccurrenceLemmas.{natural_of, rises_in_rule, apart_in_rule, LineBefore, lines_rise}
+use Rattle.tz_specs.proofs.OccurrenceLemmas.{natural_of}
 use Rattle.tz_specs.proofs.YearLemmas.{lies_once}
 use Rattle.tz_expand.specs.Stretch.{TouchesYears}
-use Rattle.tz_expand.specs.Looks.{since, through, first_look, last_look, years_through, looks_from, looks_count, looks_of, looks_of_set, IsSpan, AreYearsNear}
+use Rattle.tz_expand.specs.Looks.{since, through, first_look, last_look, years_through, looks_from, looks_count, IsSpan, AreYearsNear}
 
 abbrev pub in_year : Rule → ℤ → Occurrence
 in_year rule year = record { rule = rule; year = year }

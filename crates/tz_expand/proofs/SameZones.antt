@@ -1,5 +1,5 @@
 -- What compiled lines and zones stand for tells them apart.
-use Rattle.std.proofs.Common.{◌≡◌, Bool, IsTrue, List, [], ◌∷◌, map, ℤ, refl, sym, ap, ◌∙◌}
+use Rattle.std.proofs.Common.{◌≡◌, IsTrue, List, [], ◌∷◌, refl, sym, ap, ◌∙◌}
 use mathlib.Core.HLevel.{is_prop→PathP}
 use Rattle.std.proofs.Props.{props}
 use Rattle.tz_types.specs.Amount.{IsShift}
@@ -7,7 +7,6 @@ use Rattle.tz_types.specs.Format.{is_format}
 use Rattle.tz_types.specs.declared.database.Db.{Db}
 use Rattle.tz_types.specs.declared.zone.Zone.{Zone}
 use Rattle.tz_specs.specs.Before.{letters_before}
-use Rattle.tz_specs.specs.Until.{Following, Nothing, Fixed, Rules}
 use Rattle.tz_specs.specs.Expansion.{Period}
 use Rattle.tz_expand.specs.declared.compiled_line.CompiledRules.{CompiledRules}
 use Rattle.tz_expand.specs.declared.compiled_line.CompiledRules.TheVariants as rules

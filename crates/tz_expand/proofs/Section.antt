@@ -1,8 +1,7 @@
 -- The looks near a stretch tell each change of it, the one before it and the one after it.
-use Rattle.std.proofs.Common.{◌≡◌, ℕ, zero, suc, ◌+◌, ◌<◌, ◌≤◌, true, ◌⊎◌, inl, inr, ⊎_elim, refl, sym, ap, ◌∙◌, arith, List, [], ◌∷◌, length, get_or, Some, ℤ, pos, ◌+ℤ◌, ◌-ℤ◌, ◌<ℤ◌, ◌≤ℤ◌}
+use Rattle.std.proofs.Common.{◌≡◌, ℕ, zero, suc, ◌<◌, ◌≤◌, true, ◌⊎◌, inl, inr, ⊎_elim, refl, sym, ap, ◌∙◌, arith, List, [], ◌∷◌, length, get_or, Some, ℤ, pos, ◌+ℤ◌, ◌-ℤ◌, ◌<ℤ◌, ◌≤ℤ◌}
 use Rattle.std.specs.Prelude.{slice_get}
-use Rattle.std.specs.Int.{int_max}
-use Rattle.std.proofs.lemmas.Int.{ints, clamps, by_lt_z}
+use Rattle.std.proofs.lemmas.Int.{ints, by_lt_z}
 use Rattle.std.proofs.lemmas.Bool.{cases_order, cases_lt, false_from_ne_true}
 use Rattle.std.proofs.lemmas.Option.{same_Some, slice_get_read}
 use Rattle.jiff_core.specs.Calendar.{IsWithin}
@@ -10,18 +9,12 @@ use Rattle.tz_types.specs.Amount.{IsShift}
 use Rattle.tz_types.specs.declared.moment.AtKind.{AtKind}
 use Rattle.tz_types.specs.declared.moment.AtKind.TheVariants as kinds
 use Rattle.tz_types.specs.declared.rule_set.RuleSet.{RuleSet}
-use Rattle.tz_specs.specs.Occurrence.{Occurrence, nominal_of, precedes, occurrences}
-use Rattle.tz_specs.specs.State.{shift, instants, instants_from, in_force, state_at, put_in_force, before_first}
-use Rattle.tz_specs.specs.Until.{Rules}
-use Rattle.tz_specs.specs.Expansion.{Period, state_in, range_of}
-use Rattle.tz_specs.specs.Standing.{IsOccurrence, IsRangeOf}
-use Rattle.tz_specs.specs.Effect.{IsFirst, IsPrevious, HasSaveBefore, ComesAt, IsInEffect, NoneInEffect}
-use Rattle.tz_specs.specs.Around.{IsToCome, IsNextChange, IsBeginAround, IsEndAround}
-use Rattle.tz_specs.proofs.Tests.{not_both}
+use Rattle.tz_specs.specs.Occurrence.{Occurrence, nominal_of, precedes}
+use Rattle.tz_specs.specs.State.{shift, instants}
+use Rattle.tz_specs.specs.Effect.{HasSaveBefore, ComesAt}
 use Rattle.tz_specs.proofs.ListLemmas.{In, In-from_get, get_from_In, Pairs, Pairs-get}
-use Rattle.tz_specs.proofs.OrderLemmas.{precedes-true, true-precedes, precedes_asym, precedes_trans}
-use Rattle.tz_specs.proofs.EffectLemmas.{HasSave, instants-get, instants-back, comes_once, comes_near, in_effect_once, in_force_in_effect, in_force_before}
-use Rattle.tz_specs.proofs.AroundLemmas.{range_around}
+use Rattle.tz_specs.proofs.OrderLemmas.{precedes-true, precedes_trans}
+use Rattle.tz_specs.proofs.EffectLemmas.{HasSave, instants-get}
 use Rattle.tz_expand.specs.Looks.{IsSaveBefore}
 use Rattle.tz_expand.proofs.Strict.{Before, place_before}
 use Rattle.tz_expand.proofs.Gathered.{Earlier, Later, Gathers}

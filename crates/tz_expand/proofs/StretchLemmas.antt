@@ -1,16 +1,14 @@
 -- The ranges of a stretch, told by its instants.
-use Rattle.std.proofs.Common.{◌≡◌, Bool, true, false, ◌⊎◌, inl, inr, ⊎_elim, refl, sym, ap, ◌∙◌, arith, List, [], ◌∷◌, Some, ℤ, ◌<ℤ◌, ◌≤ℤ◌}
+use Rattle.std.proofs.Common.{◌≡◌, Bool, true, ⊎_elim, refl, arith, List, [], ◌∷◌, ℤ, ◌<ℤ◌, ◌≤ℤ◌}
 use Rattle.std.specs.Prelude.{filter, find}
 use Rattle.std.specs.List.{Contains}
-use Rattle.std.specs.Int.{int_max}
 use Rattle.std.proofs.lemmas.Int.{ints, by_lt_z}
-use Rattle.std.proofs.lemmas.Bool.{cond-true, cond-false}
 use Rattle.tz_types.specs.declared.range.SysInfo.{SysInfo}
-use Rattle.tz_specs.specs.Expansion.{first_instant, end_of_time, full_expansion, holds_instant, range_at}
+use Rattle.tz_specs.specs.Expansion.{first_instant, end_of_time, holds_instant, range_at}
 use Rattle.tz_specs.specs.Cover.{Covers}
 use Rattle.tz_specs.proofs.Tests.{by_test, not_both}
 use Rattle.tz_specs.proofs.ListLemmas.{In, In-from_Contains, Contains-from_In, In-filter, In-filter_back}
-use Rattle.tz_specs.proofs.CoverLemmas.{holds-true, true-holds, leads-chains}
+use Rattle.tz_specs.proofs.CoverLemmas.{holds-true, leads-chains}
 use Rattle.tz_specs.proofs.CutLemmas.{expansion_covers}
 use Rattle.tz_expand.specs.declared.compiled_zone.CompiledZone.{CompiledZone}
 use Rattle.tz_expand.specs.Compiled.{periods}

@@ -1,14 +1,14 @@
 -- Occurrences sorted by their keys, no two of them the same, stand strictly in order.
-use Rattle.std.proofs.Common.{◌≡◌, ℕ, zero, suc, ◌+◌, ◌<◌, ◌≤◌, Bool, true, false, ◌⊎◌, inl, inr, ⊎_elim, refl, sym, ap, subst, ◌∙◌, arith, List, [], ◌∷◌, length, get_or, Some, ℤ}
+use Rattle.std.proofs.Common.{◌≡◌, ℕ, suc, ◌+◌, ◌<◌, true, ◌⊎◌, inl, inr, ⊎_elim, refl, sym, subst, ◌∙◌, arith, List, [], ◌∷◌, length, get_or, Some, ℤ}
 use Rattle.std.specs.Prelude.{slice_get, int_lt, nat_lt, ◌||◌, ◌&&◌, ◌==◌}
 use Rattle.std.specs.Ordering.{int_eq, int_cmp, nat_cmp, is_lt, ordering_then}
 use Rattle.std.specs.List.{swap}
-use Rattle.std.specs.List.Sorted.{IsPermutation, IsSortedBy}
+use Rattle.std.specs.List.Sorted.{IsPermutation}
 use Rattle.std.proofs.lemmas.Bool.{cases_order}
 use Rattle.std.proofs.lemmas.Option.{same_Some, slice_get-get_or}
 use Rattle.std.proofs.lemmas.List.Sorted.{IsPermutation-keeps}
 use Rattle.std.proofs.lemmas.List.Edits.{swapped_from_swap, length-swap}
-use Rattle.tz_specs.specs.Occurrence.{Occurrence, nominal_of, precedes}
+use Rattle.tz_specs.specs.Occurrence.{Occurrence, precedes}
 use Rattle.tz_specs.proofs.Tests.{by_test, not_both}
 use Rattle.tz_specs.proofs.ListLemmas.{In, Pairs, Pairs-get}
 use Rattle.tz_specs.proofs.OrderLemmas.{Differs, precedes_asym, precedes_trans}

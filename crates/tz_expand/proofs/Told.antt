@@ -1,5 +1,5 @@
 -- Ranges of a line told from the last one to the first, and that this tells all that meet a stretch.
-use Rattle.std.proofs.Common.{◌≡◌, ℕ, zero, suc, ◌+◌, ◌-◌, ◌<◌, ◌≤◌, true, false, ◌⊎◌, inl, inr, ⊎_elim, refl, sym, ap, subst, ◌∙◌, arith, List, [], ◌∷◌, ◌++◌, length, Some, ℤ, pos, ◌+ℤ◌, ◌-ℤ◌, ◌<ℤ◌, ◌≤ℤ◌, append_assoc}
+use Rattle.std.proofs.Common.{◌≡◌, ℕ, zero, suc, ◌<◌, ◌≤◌, true, false, inl, inr, ⊎_elim, refl, sym, ap, subst, ◌∙◌, arith, List, [], ◌∷◌, ◌++◌, length, Some, ℤ, pos, ◌<ℤ◌, ◌≤ℤ◌, append_assoc}
 use Rattle.std.specs.Prelude.{slice_get, filter, int_lt, reverse}
 use Rattle.std.specs.Int.{int_max, int_min}
 use Rattle.std.proofs.lemmas.Int.{ints, clamps, by_lt_z}
@@ -9,7 +9,7 @@ use mathlib.Core.List.{reverse-cons}
 use Rattle.std.proofs.lemmas.Option.{same_Some}
 use Rattle.tz_types.specs.declared.range.SysInfo.{SysInfo}
 use Rattle.tz_types.specs.declared.rule_set.RuleSet.{RuleSet}
-use Rattle.tz_specs.specs.Occurrence.{Occurrence, nominal_of, occurrences}
+use Rattle.tz_specs.specs.Occurrence.{Occurrence, occurrences}
 use Rattle.tz_types.specs.declared.rule.Rule.{Rule}
 use Rattle.tz_specs.specs.State.{InForce, instants, instants_from, put_in_force, before_first, first_letters}
 use Rattle.tz_specs.specs.Before.{letters_before}
@@ -29,7 +29,7 @@ use Rattle.tz_expand.specs.Stretch.{meets}
 use Rattle.tz_expand.specs.Looks.{AreLooksOf}
 use Rattle.tz_expand.proofs.Gathered.{looks_rise, looks_gather}
 use Rattle.tz_expand.proofs.Section.{Section, NoneBy, BaseAt, base_cases, AtBase, computed_near}
-use Rattle.tz_expand.proofs.Changes.{EndsAt, Changes, change_here, Starts, start_here}
+use Rattle.tz_expand.proofs.Changes.{EndsAt, Changes, change_here, start_here}
 
 -- ---- two lists of ranges in order that have the same members are one
 abbrev pub BeginsBefore : SysInfo → SysInfo → Type 0

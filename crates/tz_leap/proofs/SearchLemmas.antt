@@ -1,5 +1,5 @@
 -- What the searches find in the entries of a leap table.
-use Rattle.std.proofs.Common.{◌≡◌, ℕ, zero, suc, ◌+◌, ◌<◌, ◌≤◌, Bool, true, false, cond, ◌&&◌, if◌then◌else◌, refl, sym, ap, ◌∙◌, ⊎_elim, arith, List, [], ◌∷◌, length, map, take, get_or, ℤ, pos, neg_ℤ, ◌+ℤ◌, ◌-ℤ◌, ◌≤ℤ◌, ◌<ℤ◌, int_lt, int_le, nat_eq, to_z, of_z, FitsSigned}
+use Rattle.std.proofs.Common.{◌≡◌, ℕ, zero, suc, ◌+◌, ◌<◌, ◌≤◌, Bool, true, false, cond, ◌&&◌, if◌then◌else◌, refl, sym, ap, ◌∙◌, ⊎_elim, arith, List, [], ◌∷◌, length, map, take, get_or, ℤ, pos, ◌+ℤ◌, ◌-ℤ◌, ◌≤ℤ◌, int_lt, int_le, nat_eq, to_z, of_z, FitsSigned}
 use Rattle.std.specs.Int.{w64}
 use Rattle.std.specs.Ordering.{int_eq}
 use Rattle.std.specs.List.{count_by}
@@ -13,7 +13,7 @@ use Rattle.jiff_core.specs.Calendar.{IsWithin}
 use Rattle.tz_types.specs.Leap.{sum_where, running_sums}
 use Rattle.tz_types.specs.declared.leap_entry.LeapEntry.{LeapEntry}
 use Rattle.tz_specs.specs.LeapSecond.{all_seconds, utc_count, counts_at, elapsed_by, is_inserted, IsSystemTime}
-use Rattle.tz_specs.proofs.LeapLemmas.{no_entry, entry_at, date_at, added_at, sum_to, all_seconds_are, sum_to_low, sum_to_high, running_sum_at, length-running_sums, le_true, le_false, from_le, from_not_le, ascending_places_le, IsReached, reached_exists, utc_count_reached, IsElapsed, begin_of, begin_at, begin_is, begins_in_order, elapsed_exists, elapsed_by_place, system_time_place, count_is_time_and_elapsed, inserted_place, none_inserted}
+use Rattle.tz_specs.proofs.LeapLemmas.{no_entry, entry_at, date_at, added_at, sum_to, sum_to_low, sum_to_high, running_sum_at, length-running_sums, le_true, le_false, from_le, from_not_le, ascending_places_le, IsReached, reached_exists, utc_count_reached, IsElapsed, begin_of, begin_at, begin_is, begins_in_order, elapsed_exists, elapsed_by_place, system_time_place, count_is_time_and_elapsed, inserted_place, none_inserted}
 
 abbrev dates : List LeapEntry → List ℤ
 dates xs = map (λ entry. entry.date) xs

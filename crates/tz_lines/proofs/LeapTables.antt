@@ -1,5 +1,5 @@
 -- Leap seconds in the order of their dates and lines: their faults as a whole, and the table that they make.
-use Rattle.std.proofs.Common.{◌≡◌, ◌≢◌, ℕ, suc, ◌+◌, ◌<◌, ◌≤◌, ◌⊎◌, inl, inr, ⊎_elim, Bool, true, false, cond, ◌&&◌, ◌||◌, ◌==◌, nat_lt, IsTrue, List, [], ◌∷◌, ◌++◌, length, map, get_or, filter_map, int_lt, int_le, ℤ, ◌<ℤ◌, ◌≤ℤ◌, Option, Some, None, Ok, refl, sym, ap, ◌∙◌, subst, append_assoc, arith}
+use Rattle.std.proofs.Common.{◌≡◌, ◌≢◌, ℕ, suc, ◌+◌, ◌<◌, ◌≤◌, ◌⊎◌, inl, inr, ⊎_elim, Bool, true, false, cond, ◌&&◌, ◌||◌, ◌==◌, nat_lt, IsTrue, List, [], ◌∷◌, ◌++◌, length, map, get_or, filter_map, int_lt, int_le, ℤ, ◌<ℤ◌, ◌≤ℤ◌, Option, Some, None, refl, sym, ap, ◌∙◌, subst, append_assoc, arith}
 use Rattle.std.specs.Ordering.{is_lt, ordering_then, int_cmp, nat_cmp, bool_cmp, int_eq}
 use Rattle.std.specs.Option.{option_to_list}
 use Rattle.std.specs.List.{Contains, list_any, sum_by, cons_option}
@@ -26,12 +26,9 @@ use Rattle.tz_specs.proofs.ListLemmas.{none_first, none_second}
 use Rattle.tz_specs.proofs.LeapTextLemmas.{LinesRise, leap_line, expiry_line, text_good}
 use Rattle.tz_lines.specs.declared.leap_contents.WrittenLeap.{WrittenLeap}
 use Rattle.tz_lines.specs.declared.leap_contents.WrittenExpiry.{WrittenExpiry}
-use Rattle.tz_lines.specs.declared.error.LineError.{LineError}
-use Rattle.tz_lines.specs.declared.error.LineError.TheVariants as errors
 use Rattle.tz_rules.specs.Told.{told_with, IsLeastOf}
-use Rattle.tz_lines.specs.LeapContents.{entry_meant, leap_meant, expiry_meant, leap_cmp, AreGiven, IsTableOf, MeansLeapLineFault, MeansWholeLeapFault}
+use Rattle.tz_lines.specs.LeapContents.{entry_meant, leap_meant, expiry_meant, leap_cmp, AreGiven, IsTableOf}
 use Rattle.tz_lines.specs.LeapFaults.{repeats_after, repeats, later_expiries, last_date, is_early, early_expiries}
-use Rattle.tz_lines.specs.LeapRefusal.{MeansRefusal}
 use Rattle.tz_rules.proofs.Leasts.{least_told}
 
 -- ---- each of them before the next

@@ -19,7 +19,7 @@ use Rattle.tz_specs.specs.Value.{is_exactly}
 use Rattle.tz_specs.specs.Written.{written_rules, written_line, written_zone}
 use Rattle.tz_rules.specs.Continued.{is_named_by}
 use Rattle.tz_rules.proofs.FirstLines.{same_name}
-use Rattle.tz_lines.specs.SetNames.{with_name, AreBegun}
+use Rattle.tz_lines.specs.SetNames.{with_set_name, AreBegun}
 
 -- the place of a name, when one more came
 
@@ -76,7 +76,7 @@ there (label ∷ labels) (suc place) name e = or_later (is_exactly label name) (
     or_later true later = refl
     or_later false later = later
 
-pub known_kept : (labels : List (List ℕ)) (place : ℕ) (name : List ℕ) → slice_get labels place ≡ Some name → labels ≡ with_name name labels
+pub known_kept : (labels : List (List ℕ)) (place : ℕ) (name : List ℕ) → slice_get labels place ≡ Some name → labels ≡ with_set_name name labels
 known_kept labels place name e = rw (there labels place name e) refl
 
 pub found_there : (labels : List (List ℕ)) (place : ℕ) (name : List ℕ) → position (λ label. is_exactly label name) labels ≡ Some place → slice_get labels place ≡ Some name
@@ -106,7 +106,7 @@ not_there (label ∷ labels) name e = by_test (is_exactly label name) e (not_the
         absurd (none_or_some 0 (rw some at e))
     by_test false e next = next (later (position_or_len (λ it. is_exactly it name) labels) (length labels) e)
 
-pub new_pushed : (labels : List (List ℕ)) (name : List ℕ) → position (λ label. is_exactly label name) labels ≡ None → labels ++ name ∷ [] ≡ with_name name labels
+pub new_pushed : (labels : List (List ℕ)) (name : List ℕ) → position (λ label. is_exactly label name) labels ≡ None → labels ++ name ∷ [] ≡ with_set_name name labels
 new_pushed labels name e = rw (not_there labels name e) refl
 
 -- the place of the last

@@ -4,8 +4,8 @@ use Rattle.std.specs.List.{list_any}
 use Rattle.tz_specs.specs.Value.{is_exactly}
 
 -- the names, when one more came
-abbrev pub with_name : List ℕ → List (List ℕ) → List (List ℕ)
-with_name name names = if list_any (λ other. is_exactly other name) names then names else names ++ name ∷ []
+abbrev pub with_set_name : List ℕ → List (List ℕ) → List (List ℕ)
+with_set_name name names = if list_any (λ other. is_exactly other name) names then names else names ++ name ∷ []
 
 -- some more names stand behind these
 abbrev pub AreBegun : List (List ℕ) → List (List ℕ) → Type 0

@@ -4,7 +4,7 @@ ghost use Rattle.std.specs.Ordering.{nat_cmp};
 ghost use Rattle.std.specs.Cmp.Lexicographic.{slice_cmp};
 ghost use Rattle.std.specs.BTreeMap.{get};
 ghost use Rattle.tz_specs.specs.Value.{is_exactly};
-ghost use Rattle.tz_lines.specs.SetNames.{with_name, AreBegun};
+ghost use Rattle.tz_lines.specs.SetNames.{with_set_name, AreBegun};
 
 use std::alloc::Global;
 use std::collections::BTreeMap;
@@ -65,7 +65,7 @@ impl SetNames {
     fn search(&mut self, name: SetName<'_>) -> Result<u32, NoMemory>
         requires { length self.old.labels.items < 2 ^ 32 }
         ensures place { IfOk result (λ place. slice_get self.new.labels.items place ≡ Some name.entry.bytes.now) }
-        ensures labels { OnOk result (self.new.labels.items ≡ with_name name.entry.bytes.now self.old.labels.items) }
+        ensures labels { OnOk result (self.new.labels.items ≡ with_set_name name.entry.bytes.now self.old.labels.items) }
         ensures begun { AreBegun self.old.labels.items self.new.labels.items }
         ensures few { length self.new.labels.items ≤ length self.old.labels.items + 1 }
     {
@@ -80,7 +80,7 @@ impl SetNames {
     pub fn place(&mut self, name: SetName<'_>) -> Result<u32, NoMemory>
         requires { length self.old.labels.items < 2 ^ 32 }
         ensures place { IfOk result (λ place. slice_get self.new.labels.items place ≡ Some name.entry.bytes.now) }
-        ensures labels { OnOk result (self.new.labels.items ≡ with_name name.entry.bytes.now self.old.labels.items) }
+        ensures labels { OnOk result (self.new.labels.items ≡ with_set_name name.entry.bytes.now self.old.labels.items) }
         ensures begun { AreBegun self.old.labels.items self.new.labels.items }
         ensures few { length self.new.labels.items ≤ length self.old.labels.items + 1 }
     {

@@ -75,10 +75,6 @@ last_from-end first [] range = refl
 last_from-end first (next ∷ later) range = last_from-end next later range
 
 -- ---- a range that shows l
-pub only_candidate : (seen : List SysInfo) (l : ℤ) (range : SysInfo) → shows_local l range ≡ true → candidates seen l ≡ [] → candidates (seen ++ range ∷ []) l ≡ range ∷ []
-only_candidate seen l range shows none =
-    candidates-shown seen l range shows ∙ ap (λ (rs : List SysInfo). rs ++ range ∷ []) none
-
 pub second_candidate : (seen : List SysInfo) (l : ℤ) (range first : SysInfo) → shows_local l range ≡ true → candidates seen l ≡ first ∷ [] → AreFindings (seen ++ range ∷ []) l (Told (Ambiguous first range))
 second_candidate seen l range first shows one = (
   range,

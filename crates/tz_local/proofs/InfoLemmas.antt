@@ -88,7 +88,7 @@ found_among a b t (first ∷ ranges) range covers found =
     })
 
 -- ranges that have ended don't hold it
-range_at-past : (a b t : ℤ) (seen ahead : List SysInfo) → Covers a b seen → b ≤ℤ t → range_at (seen ++ ahead) t ≡ range_at ahead t
+pub range_at-past : (a b t : ℤ) (seen ahead : List SysInfo) → Covers a b seen → b ≤ℤ t → range_at (seen ++ ahead) t ≡ range_at ahead t
 range_at-past a b t [] ahead covers past = refl
 range_at-past a b t (first ∷ seen) ahead covers past =
     let ordered : first.end ≤ℤ b = covers_ordered first.end b seen covers.2 in
@@ -116,7 +116,7 @@ none_shown l (range ∷ ranges) hidden =
     cond-false (shows_local l range) (range ∷ candidates ranges l) (candidates ranges l) (hidden range (inl refl))
     ∙ none_shown l ranges (λ other has. hidden other (inr has))
 
-ended_by : (a b : ℤ) (ranges : List SysInfo) (range : SysInfo) → Covers a b ranges → In range ranges → range.end ≤ℤ b
+pub ended_by : (a b : ℤ) (ranges : List SysInfo) (range : SysInfo) → Covers a b ranges → In range ranges → range.end ≤ℤ b
 ended_by a b [] range covers has = absurd has
 ended_by a b (first ∷ ranges) range covers has =
     let ordered : first.end ≤ℤ b = covers_ordered first.end b ranges covers.2 in
@@ -124,7 +124,7 @@ ended_by a b (first ∷ ranges) range covers has =
     (λ (later : In range ranges). ended_by first.end b ranges range covers.2 later)
     has
 
-begun_from : (a b : ℤ) (ranges : List SysInfo) (range : SysInfo) → Covers a b ranges → In range ranges → a ≤ℤ range.begin
+pub begun_from : (a b : ℤ) (ranges : List SysInfo) (range : SysInfo) → Covers a b ranges → In range ranges → a ≤ℤ range.begin
 begun_from a b [] range covers has = absurd has
 begun_from a b (first ∷ ranges) range covers has =
     let begins : first.begin ≡ a = covers.0 in
@@ -164,7 +164,7 @@ first_seen zone l range findings found told =
       covers = among.covers;
     }
 
-next_head : (b t : ℤ) (ahead : List SysInfo) (range : SysInfo) → Covers t b ahead → range_at ahead t ≡ Some range → (later : List SysInfo) × (ahead ≡ range ∷ later) × (range.begin ≡ t) × (range.begin <ℤ range.end) × Covers range.end b later
+pub next_head : (b t : ℤ) (ahead : List SysInfo) (range : SysInfo) → Covers t b ahead → range_at ahead t ≡ Some range → (later : List SysInfo) × (ahead ≡ range ∷ later) × (range.begin ≡ t) × (range.begin <ℤ range.end) × Covers range.end b later
 next_head b t [] range covers found = absurd (none-some range (sym (range_at-none t) ∙ found))
 next_head b t (first ∷ later) range covers found =
     let begins : first.begin ≡ t = covers.0 in

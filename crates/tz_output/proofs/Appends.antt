@@ -1,5 +1,5 @@
 -- Pieces that are put one after another stand there as one.
-use Rattle.std.proofs.Common.{◌≡◌, ℕ, List, ◌++◌, refl, ap, ◌∙◌, append_assoc}
+use Rattle.std.proofs.Common.{◌≡◌, ℕ, List, ◌++◌, ap, ◌∙◌, append_assoc}
 
 -- one more piece behind what stands there
 after_more : (out some more before after : List ℕ) → before ≡ out ++ some → after ≡ before ++ more → after ≡ out ++ (some ++ more)

@@ -16,6 +16,8 @@ mod rows;
 #[cfg(test)]
 mod sizes;
 #[cfg(test)]
+mod sources;
+#[cfg(test)]
 mod texts;
 #[cfg(test)]
 mod zone_texts;

@@ -7,7 +7,7 @@ use std::thread::Threads;
 use tz_cli::{Plain, Status};
 
 /// Blank lines of 64 bytes, cut off after `length` bytes.
-fn blank_lines(alloc: Global, length: usize) -> Result<Vec<u8>, AllocError> {
+pub fn blank_lines(alloc: Global, length: usize) -> Result<Vec<u8>, AllocError> {
     let mut text = vec![in alloc; b' '; length]?;
     for end in text.iter_mut().skip(63).step_by(64) {
         *end = b'\n';

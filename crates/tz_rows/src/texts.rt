@@ -68,6 +68,22 @@ Zone Test/Until 1:00 T A%sT 2010 Oct 1 2:00
         2:00 - B
 ";
 
+/// The rules of that text, and its zone, apart.
+const TEXT_P: &str = "\
+Rule T 2000 max - Apr 1 2:00 1:00 D
+Rule T 2000 max - Oct 1 2:00 0 S
+";
+
+const TEXT_Q: &str = "\
+Zone Test/Until 1:00 T A%sT 2010 Oct 1 2:00
+        2:00 - B
+";
+
+/// A zone whose continuation stands in another text.
+const TEXT_G: &str = "Zone A 0 - X 2000\n";
+
+const TEXT_H: &str = "0 - Y\n";
+
 /// A day that may lie in the next month.
 const TEXT_O: &str = "\
 Rule O 2021 2022 - Oct Sun>=31 0:00u 1:00 X
@@ -155,13 +171,19 @@ const TWO_GAPS: &str =
     "Zone W 0 - A 1970\n24 - B 1970 Jan 1 0:01:40u\n-24 - C 1970 Jan 1 0:03:20u\n24 - D\n";
 
 /// Each text by the name that rows call it.
-pub const TEXTS: [(&str, &str); 31] = [
+pub const TEXTS: [(&str, &str); 37] = [
     ("N", TEXT_N),
     ("A", TEXT_A),
     ("B", TEXT_B),
     ("Z", TEXT_Z),
     ("E", TEXT_E),
     ("U", TEXT_U),
+    ("P", TEXT_P),
+    ("Q", TEXT_Q),
+    ("G", TEXT_G),
+    ("H", TEXT_H),
+    ("=f", "Zone F 0 - F\n"),
+    ("a,b", ""),
     ("O", TEXT_O),
     ("several", SEVERAL),
     ("D", TEXT_D),

@@ -1,12 +1,12 @@
 -- What comes first after a mark.
-use Rattle.std.proofs.Common.{◌≡◌, ℕ, ◌+◌, ◌≤◌, ◌<◌, Bool, true, false, ◌||◌, ◌&&◌, ◌⊎◌, inl, inr, ⊎_elim, refl, sym, ap, subst, ◌∙◌, arith, ℤ, pos, ◌+ℤ◌, ◌-ℤ◌, ◌<ℤ◌, ◌≤ℤ◌, nat_lt, IsTrue, Option, Some, None}
+use Rattle.std.proofs.Common.{◌≡◌, ℕ, ◌+◌, ◌≤◌, ◌<◌, true, false, ◌&&◌, ◌⊎◌, inl, inr, ⊎_elim, sym, ap, subst, ◌∙◌, arith, ℤ, pos, ◌+ℤ◌, ◌<ℤ◌, ◌≤ℤ◌, nat_lt, Option, Some, None}
 use Rattle.std.specs.Prelude.{int_lt, slice_get}
 use Rattle.std.specs.Ordering.{int_eq}
 use Rattle.std.proofs.lemmas.Int.{ints, by_lt_z}
 use Rattle.std.proofs.lemmas.Bool.{or_left, and_parts, or_cases, false_from_ne_true}
 use Rattle.tz_types.specs.declared.rule.Rule.{Rule}
 use Rattle.tz_types.specs.declared.rule_set.RuleSet.{RuleSet}
-use Rattle.tz_specs.specs.Occurrence.{Occurrence, nominal_of, nominal_second, precedes}
+use Rattle.tz_specs.specs.Occurrence.{Occurrence, nominal_of, precedes}
 use Rattle.tz_specs.specs.Standing.{IsOccurrence}
 use Rattle.tz_specs.specs.Effect.{IsPrevious}
 use Rattle.tz_specs.proofs.Tests.{by_test, not_both, int_lt-true, lt-int_lt, int_eq-true}
@@ -15,7 +15,7 @@ use Rattle.tz_specs.proofs.OccurrenceLemmas.{rises_in_rule, occurrences_total}
 use Rattle.tz_rules.specs.declared.mark.Mark.{Mark}
 use Rattle.tz_rules.specs.Placed.{Placed, OccursIn, StandsIn}
 use Rattle.tz_rules.specs.Mark.{is_after, IsEarliestYear}
-use Rattle.tz_rules.specs.Search.{in_year, IsFirstYear, IsLastYear, IsYearCount, FirstOfRule, IsFirstOfRule, FirstFrom, IsFirstFrom, FirstAfter, IsFirstAfter, IsNextOf, earlier_of, through_of}
+use Rattle.tz_rules.specs.Search.{in_year, IsFirstYear, IsLastYear, IsYearCount, FirstOfRule, IsFirstOfRule, FirstFrom, IsFirstFrom, IsFirstAfter, IsNextOf, earlier_of, through_of}
 use Rattle.tz_rules.proofs.YearBounds.{two_years_earlier}
 use Rattle.tz_rules.proofs.BeforeMark.{occurs_between, precedes_self, by_place, same_rule, is_of_stands, occurs_of_is, place_of_is}
 

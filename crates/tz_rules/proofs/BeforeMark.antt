@@ -1,17 +1,15 @@
 -- What comes last before a mark.
-use Rattle.std.proofs.Common.{◌≡◌, ℕ, ◌+◌, ◌≤◌, ◌<◌, Bool, true, false, ◌||◌, ◌&&◌, ◌⊎◌, inl, inr, ⊎_elim, refl, sym, ap, subst, ◌∙◌, arith, ℤ, pos, ◌+ℤ◌, ◌-ℤ◌, ◌<ℤ◌, ◌≤ℤ◌, nat_lt, IsTrue, Option, Some, None, List, length, get_or}
+use Rattle.std.proofs.Common.{◌≡◌, ℕ, ◌+◌, ◌≤◌, ◌<◌, true, false, ◌&&◌, ◌⊎◌, inl, inr, ⊎_elim, sym, ap, subst, ◌∙◌, arith, ℤ, pos, ◌+ℤ◌, ◌-ℤ◌, ◌<ℤ◌, ◌≤ℤ◌, nat_lt, Option, Some, None, List, length, get_or}
 use Rattle.std.specs.Prelude.{int_lt, slice_get}
 use Rattle.std.specs.Ordering.{int_eq}
 use Rattle.std.proofs.lemmas.Int.{ints, by_lt_z}
-use Rattle.std.proofs.lemmas.Bool.{or_left, or_right, and_from, and_parts, or_cases, false_from_ne_true, cases_order, ltb-true}
+use Rattle.std.proofs.lemmas.Bool.{or_left, and_parts, or_cases, false_from_ne_true, cases_order, ltb-true}
 use Rattle.std.proofs.lemmas.Option.{same_Some, slice_get-get_or}
-use Rattle.jiff_core.proofs.SignedLemmas.{signed_arith}
 use Rattle.tz_types.specs.declared.rule.Rule.{Rule}
 use Rattle.tz_types.specs.declared.rule_set.RuleSet.{RuleSet}
-use Rattle.tz_specs.specs.Occurrence.{Occurrence, nominal_of, nominal_second, precedes}
-use Rattle.tz_specs.proofs.Tests.{by_test, not_both, int_lt-true, lt-int_lt, int_eq-true, eq-int_eq}
+use Rattle.tz_specs.specs.Occurrence.{Occurrence, nominal_of, precedes}
+use Rattle.tz_specs.proofs.Tests.{by_test, not_both, int_lt-true, lt-int_lt, int_eq-true}
 use Rattle.tz_specs.specs.Standing.{IsOccurrence}
-use Rattle.tz_specs.specs.Effect.{IsPrevious}
 use Rattle.tz_specs.proofs.ListLemmas.{In-from_Contains, Contains-from_In, In-from_get, get_from_In}
 use Rattle.tz_specs.proofs.OrderLemmas.{true-precedes, precedes_asym, precedes_trans}
 use Rattle.tz_specs.proofs.OccurrenceLemmas.{rises_in_rule, occurrences_total}
@@ -19,7 +17,7 @@ use Rattle.tz_rules.proofs.YearBounds.{two_years_earlier}
 use Rattle.tz_rules.specs.declared.mark.Mark.{Mark}
 use Rattle.tz_rules.specs.Placed.{Placed, OccursIn, StandsIn}
 use Rattle.tz_rules.specs.Mark.{is_before, IsLatestYear}
-use Rattle.tz_rules.specs.Search.{in_year, IsFirstYear, IsLastYear, IsYearCount, LastOfRule, IsLastOfRule, LastFrom, IsLastFrom, LastBefore, IsLastBefore, LastBy, IsLastBy, IsPreviousOf, later_of, since_of}
+use Rattle.tz_rules.specs.Search.{in_year, IsFirstYear, IsLastYear, IsYearCount, LastOfRule, IsLastOfRule, LastFrom, IsLastFrom, IsLastBefore, IsLastBy, IsPreviousOf, later_of, since_of}
 
 -- ---- tests on marks
 pub earlier_is_before : (mark : Mark) (occurrence : Occurrence) → nominal_of occurrence <ℤ mark.second → is_before mark occurrence ≡ true

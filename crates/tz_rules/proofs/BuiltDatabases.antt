@@ -180,10 +180,6 @@ all_reach contents (link ∷ links) none =
 abbrev pub Reached : Parts → List (Option ℕ) → Type 0
 Reached parts reached = map (name_at parts.zones) reached ≡ map (zone_of_link (contents_given parts)) (contents_given parts).links
 
-pub as_many_reached : (parts : Parts) (reached : List (Option ℕ)) → Reached parts reached → length reached ≡ length parts.links
-as_many_reached parts reached are =
-    sym (length-map reached (name_at parts.zones)) ∙ (ap length are ∙ (length-map (map written_link parts.links) (zone_of_link (contents_given parts)) ∙ length-map parts.links written_link))
-
 pub all_reached : (parts : Parts) (settled zones : List Zone) (reached : List (Option ℕ)) → AreSettledZones parts.sets parts.names parts.zones settled → IsPermutation settled zones → IsTrue (ascends name_before (map zone_name_of zones)) → Reached parts reached → whole_faults parts.sets (contents_given parts) ≡ [] → IsTrue (list_all (λ place. is_some (place_reached (map zone_name_of parts.zones) zones place)) reached)
 all_reached parts settled zones reached settled_are same ascend are none =
     let contents = contents_given parts in
@@ -208,7 +204,7 @@ alike_permuted : {X Y : Type 0} (f g : X → Y) (xs ys : List X) → IsPermutati
 alike_permuted {X} {Y} f g xs ys moved same =
     alike_all f g ys (All-permutation (λ x. f x ≡ g x) xs ys moved (all_alike f g xs same))
 
-all_permuted : {X : Type 0} (p : X → Bool) (xs ys : List X) → IsPermutation xs ys → IsTrue (list_all p xs) → IsTrue (list_all p ys)
+pub all_permuted : {X : Type 0} (p : X → Bool) (xs ys : List X) → IsPermutation xs ys → IsTrue (list_all p xs) → IsTrue (list_all p ys)
 all_permuted {X} p xs ys moved all =
     list_all-from_AllPass p ys (All-permutation (λ x. p x ≡ true) xs ys moved (AllPass-from_list_all p xs all))
 
@@ -234,7 +230,7 @@ place_in contents zones link is = by_name (zone_of_link contents (written_link l
     by_name (Some name) is =
         (let low = place_within zone_name_of zones name link.zone (sym is) in grind (arith, nat_tests))
 
-places_in : (contents : Contents) (zones : List Zone) (links : List Link) → map own_zone links ≡ map (link_place contents zones) links → IsTrue (list_all (λ (link : Link). nat_lt link.zone (length zones)) links)
+pub places_in : (contents : Contents) (zones : List Zone) (links : List Link) → map own_zone links ≡ map (link_place contents zones) links → IsTrue (list_all (λ (link : Link). nat_lt link.zone (length zones)) links)
 places_in contents zones [] same = refl
 places_in contents zones (link ∷ links) same =
     and_from (nat_lt link.zone (length zones)) (list_all (λ (link : Link). nat_lt link.zone (length zones)) links) (place_in contents zones link (cc)) (places_in contents zones links (cc))

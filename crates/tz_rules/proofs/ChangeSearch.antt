@@ -1,19 +1,18 @@
 -- The search for the next change.
-use Rattle.std.proofs.Common.{◌≡◌, ℕ, ◌+◌, ◌≤◌, ◌<◌, Bool, true, false, ◌||◌, ◌&&◌, ◌⊎◌, inl, inr, ⊎_elim, refl, sym, ap, subst, ◌∙◌, arith, ℤ, pos, neg_ℤ, ◌+ℤ◌, ◌-ℤ◌, ◌<ℤ◌, ◌≤ℤ◌, IsTrue, Option, Some, None, length}
+use Rattle.std.proofs.Common.{◌≡◌, ℕ, ◌+◌, ◌≤◌, ◌<◌, true, false, ◌&&◌, ◌⊎◌, inl, inr, ⊎_elim, refl, sym, ap, subst, ◌∙◌, arith, ℤ, pos, ◌+ℤ◌, ◌-ℤ◌, ◌<ℤ◌, ◌≤ℤ◌, Option, Some, None, length}
 use Rattle.std.specs.Prelude.{int_lt, slice_get}
 use Rattle.std.specs.Ordering.{int_eq}
 use Rattle.std.proofs.lemmas.Int.{ints, by_lt_z}
 use Rattle.std.proofs.lemmas.Bool.{cases_order, or_cases, or_left, or_right, and_parts, and_from}
-use Rattle.std.proofs.lemmas.Option.{slice_get_within, same_Some}
+use Rattle.std.proofs.lemmas.Option.{slice_get_within}
 use Rattle.tz_types.specs.Amount.{IsShift}
 use Rattle.tz_types.specs.declared.rule.Rule.{Rule}
 use Rattle.tz_types.specs.declared.rule_set.RuleSet.{RuleSet}
 use Rattle.tz_specs.specs.Occurrence.{Occurrence, nominal_of, nominal_second, precedes}
-use Rattle.tz_specs.specs.State.{shift}
 use Rattle.tz_specs.specs.Standing.{IsOccurrence}
 use Rattle.tz_specs.specs.Effect.{ComesAt, IsInEffect, NoneInEffect}
-use Rattle.tz_specs.specs.Around.{IsToCome, IsNextChange}
-use Rattle.tz_specs.proofs.Tests.{by_test, not_both, int_lt-true, int_lt-false, lt-int_lt, int_eq-true, eq-int_eq}
+use Rattle.tz_specs.specs.Around.{IsToCome}
+use Rattle.tz_specs.proofs.Tests.{by_test, not_both, int_lt-true, int_lt-false, int_eq-true, eq-int_eq}
 use Rattle.tz_specs.proofs.OrderLemmas.{precedes_asym, precedes_trans}
 use Rattle.tz_specs.proofs.OccurrenceLemmas.{apart_in_rule}
 use Rattle.tz_specs.proofs.EffectLemmas.{comes_once, in_effect_once}
@@ -22,7 +21,7 @@ use Rattle.tz_rules.specs.declared.next_change.Coming.{Coming}
 use Rattle.tz_rules.specs.declared.next_change.Window.{Window}
 use Rattle.tz_rules.specs.Placed.{Placed, OccursIn, StandsIn}
 use Rattle.tz_rules.specs.Mark.{is_after, IsLatestYear, IsEarliestYear}
-use Rattle.tz_rules.specs.Search.{in_year, FirstOfRule, IsFirstOfRule, FirstAfter, IsFirstAfter, IsPreviousOf}
+use Rattle.tz_rules.specs.Search.{in_year, FirstOfRule, IsFirstOfRule, FirstAfter, IsPreviousOf}
 use Rattle.tz_rules.specs.InEffect.{IsState, saved_by}
 use Rattle.tz_rules.specs.NextChange.{mark_from, IsWindow, IsSoonest, is_sooner, sooner_of, IsFirstToCome, IsNext, IsNextAfter}
 use Rattle.tz_rules.proofs.Instants.{nominal_bounds, comes_after, comes_by, comes_under}

@@ -1,25 +1,25 @@
 -- The search for the occurrence in effect.
-use Rattle.std.proofs.Common.{◌≡◌, ℕ, ◌+◌, ◌≤◌, ◌<◌, Bool, true, false, ◌⊎◌, inl, inr, ⊎_elim, refl, sym, ap, subst, ◌∙◌, arith, ℤ, pos, neg_ℤ, ◌+ℤ◌, ◌-ℤ◌, ◌<ℤ◌, ◌≤ℤ◌, IsTrue, Option, Some, None, length}
+use Rattle.std.proofs.Common.{◌≡◌, ℕ, ◌+◌, ◌≤◌, ◌<◌, true, false, ◌⊎◌, inl, inr, ⊎_elim, refl, sym, ap, subst, ◌∙◌, arith, ℤ, pos, neg_ℤ, ◌+ℤ◌, ◌-ℤ◌, ◌<ℤ◌, ◌≤ℤ◌, Option, Some, None, length}
 use Rattle.std.specs.Prelude.{slice_get}
 use Rattle.std.proofs.lemmas.Int.{ints, by_lt_z}
-use Rattle.std.proofs.lemmas.Bool.{false_from_ne_true, cases_order, cases_lt}
+use Rattle.std.proofs.lemmas.Bool.{cases_order}
 use Rattle.std.proofs.lemmas.Option.{slice_get_within}
 use Rattle.tz_types.specs.Amount.{IsShift}
 use Rattle.tz_types.specs.declared.rule.Rule.{Rule}
 use Rattle.tz_types.specs.declared.rule_set.RuleSet.{RuleSet}
 use Rattle.tz_specs.specs.Occurrence.{Occurrence, nominal_of, nominal_second, precedes}
 use Rattle.tz_specs.specs.Standing.{IsOccurrence}
-use Rattle.tz_specs.specs.Effect.{ComesAt, IsInEffect, NoneInEffect}
+use Rattle.tz_specs.specs.Effect.{ComesAt}
 use Rattle.tz_specs.proofs.Tests.{by_test, not_both, int_le-true}
 use Rattle.tz_specs.proofs.OrderLemmas.{true-precedes, precedes_asym}
 use Rattle.tz_specs.proofs.OccurrenceLemmas.{apart_in_rule}
 use Rattle.tz_specs.proofs.EffectLemmas.{comes_somewhen, comes_once}
 use Rattle.tz_rules.specs.declared.mark.Mark.{Mark}
 use Rattle.tz_rules.specs.Mark.{is_before}
-use Rattle.tz_rules.specs.Placed.{Placed, OccursIn, StandsIn}
-use Rattle.tz_rules.specs.Search.{in_year, LastOfRule, IsLastOfRule, LastBy, IsLastBy}
-use Rattle.tz_rules.specs.InEffect.{IsAsGoodAs, IsState, HasCome, is_settled, follows, LastCome, NoneCome, IsLastCome, ComesLater}
-use Rattle.tz_rules.proofs.Instants.{comes_after, comes_by, comes_in_time}
+use Rattle.tz_rules.specs.Placed.{Placed, OccursIn}
+use Rattle.tz_rules.specs.Search.{in_year, LastOfRule, IsLastOfRule, IsLastBy}
+use Rattle.tz_rules.specs.InEffect.{IsState, HasCome, is_settled, follows, LastCome, IsLastCome, ComesLater}
+use Rattle.tz_rules.proofs.Instants.{comes_after, comes_by}
 use Rattle.tz_rules.proofs.BeforeMark.{earlier_is_before, before_is_by_second, own_stands, precedes_self, not_after_later, same_rule, is_of_stands, occurs_of_is, place_of_is}
 
 -- ---- what lies two days before has come, what lies more than two days after hasn't

@@ -10,7 +10,7 @@ use Rattle.tz_types.specs.declared.cause.Cause.TheVariants as causes
 use Rattle.tz_types.specs.declared.fault.LineFault.{LineFault}
 use Rattle.tz_specs.specs.Value.{is_exactly}
 use Rattle.tz_specs.specs.Whole.{fault_where, repeated_name}
-use Rattle.tz_rules.specs.FirstLine.{first_line, lesser_line, is_after, later_name}
+use Rattle.tz_rules.specs.FirstLine.{first_line, lesser_line, has_lesser_line, later_name}
 
 pub same_name : (name other : List ℕ) → is_eq (slice_cmp nat_cmp name other) ≡ is_exactly name other
 same_name name other = is_eq-slice_cmp name other
@@ -20,7 +20,7 @@ first-append name least [] second = refl
 first-append name least (here ∷ first) second =
     first-append name (if is_exactly here.0 name then lesser_line least here.1 else least) first second
 
-after_lesser : (least : Option ℕ) (other line : ℕ) → is_after (lesser_line least other) line ≡ (is_after least line || nat_lt other line)
+after_lesser : (least : Option ℕ) (other line : ℕ) → has_lesser_line (lesser_line least other) line ≡ (has_lesser_line least line || nat_lt other line)
 after_lesser None other line = refl
 after_lesser (Some least) other line = grind (arith, nat_tests)
 
@@ -28,11 +28,11 @@ after_lesser (Some least) other line = grind (arith, nat_tests)
 abbrev is_given_before : List ℕ → ℕ → List (List ℕ × ℕ) → Bool
 is_given_before name line names = list_any (λ other. is_exactly other.0 name && nat_lt other.1 line) names
 
-after_one : (same : Bool) (least : Option ℕ) (other line : ℕ) (later : Bool) → (is_after (if same then lesser_line least other else least) line || later) ≡ (is_after least line || ((same && nat_lt other line) || later))
+after_one : (same : Bool) (least : Option ℕ) (other line : ℕ) (later : Bool) → (has_lesser_line (if same then lesser_line least other else least) line || later) ≡ (has_lesser_line least line || ((same && nat_lt other line) || later))
 after_one true least other line later = rw (after_lesser least other line) (grind arith)
 after_one false least other line later = refl
 
-after_first : (name : List ℕ) (line : ℕ) (least : Option ℕ) (names : List (List ℕ × ℕ)) → is_after (first_line name least names) line ≡ (is_after least line || is_given_before name line names)
+after_first : (name : List ℕ) (line : ℕ) (least : Option ℕ) (names : List (List ℕ × ℕ)) → has_lesser_line (first_line name least names) line ≡ (has_lesser_line least line || is_given_before name line names)
 after_first name line least [] = grind arith
 after_first name line least (here ∷ names) =
     after_first name line (if is_exactly here.0 name then lesser_line least here.1 else least) names ∙ after_one (is_exactly here.0 name) least here.1 line (is_given_before name line names)
@@ -40,7 +40,7 @@ after_first name line least (here ∷ names) =
 -- with the least line of each name, the later ones are those that an earlier line gives too
 pub later_repeats : (least_of : List ℕ → Option ℕ) (names : List (List ℕ × ℕ)) → ((name : List ℕ) → least_of name ≡ first_line name None names) → (here : List ℕ × ℕ) → later_name least_of here ≡ repeated_name names here
 later_repeats least_of names are here =
-    ap (λ repeated. fault_where repeated here.1 causes.DuplicateName) (ap (λ least. is_after least here.1) (are here.0) ∙ after_first here.0 here.1 None names)
+    ap (λ repeated. fault_where repeated here.1 causes.DuplicateName) (ap (λ least. has_lesser_line least here.1) (are here.0) ∙ after_first here.0 here.1 None names)
 
 filter_agrees : {A : Type 0} (f g : A → Option LineFault) → ((x : A) → f x ≡ g x) → (xs : List A) → filter_map f xs ≡ filter_map g xs
 filter_agrees {A} f g same [] = refl

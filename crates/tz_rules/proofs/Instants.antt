@@ -1,8 +1,7 @@
 -- Where the instants of occurrences lie.
-use Rattle.std.proofs.Common.{◌≡◌, ◌⊎◌, inl, inr, arith, ℤ, pos, neg_ℤ, ◌+ℤ◌, ◌-ℤ◌, ◌<ℤ◌, ◌≤ℤ◌, Option, Some, None}
+use Rattle.std.proofs.Common.{◌≡◌, inl, inr, arith, ℤ, pos, neg_ℤ, ◌+ℤ◌, ◌-ℤ◌, ◌<ℤ◌, ◌≤ℤ◌, Option, Some, None}
 use Rattle.std.proofs.lemmas.Int.{ints}
 use Rattle.jiff_core.proofs.SignedLemmas.{signed_arith}
-use Rattle.jiff_core.specs.Calendar.{IsWithin}
 use Rattle.tz_types.specs.Amount.{IsShift}
 use Rattle.tz_types.specs.declared.rule.Rule.{Rule}
 use Rattle.tz_types.specs.declared.rule_set.RuleSet.{RuleSet}
@@ -15,7 +14,7 @@ use Rattle.tz_specs.proofs.ExpansionLemmas.{begin_of_time-midnight, end_of_time-
 use Rattle.tz_rules.specs.Placed.{Placed, OccursIn}
 use Rattle.tz_rules.specs.Search.{IsPreviousOf}
 use Rattle.tz_rules.specs.InEffect.{saved_by}
-use Rattle.tz_rules.proofs.YearBounds.{starts_apart, starts_rise, near_start}
+use Rattle.tz_rules.proofs.YearBounds.{starts_apart, near_start}
 use Rattle.tz_rules.proofs.BeforeMark.{occurs_of_is}
 
 -- nominal seconds lie well inside of time

@@ -85,12 +85,6 @@ first_of_it rule place year last found is first final within standard =
       first = λ other occurs. rw year_is (first.least other occurs occurs.year_in.0);
     }
 
-pub none_of_it : (rule : Rule) (year last : ℤ) → IsFirstYear rule (neg_ℤ (pos 9998)) year → IsLastYear rule (pos 9998) last → last <ℤ year → (other : ℤ) → ¬ (OccursIn rule other)
-none_of_it rule year last first final none other occurs =
-    let low = first.least other occurs occurs.year_in.0 in
-    let high = final.greatest other occurs occurs.year_in.1 in
-    omega (arith, ints)
-
 -- ---- one more rule
 -- it has no occurrence with save 0
 pub step_none : (set : RuleSet) (count : ℕ) (rule : Rule) (best : Option Placed) → slice_get set.rules count ≡ Some rule → IsFirstOfStandard rule count None → IsFirstBelow set count best → IsFirstBelow set (count + 1) best

@@ -1,18 +1,16 @@
 -- What is told of occurrences, at any instant.
-use Rattle.std.proofs.Common.{◌≡◌, ⊎_elim, inl, inr, ◌⊎◌, true, arith, ℤ, pos, neg_ℤ, ◌<ℤ◌, ◌≤ℤ◌, refl, ap, ◌∙◌, sym, Option, Some, None, length}
-use Rattle.std.specs.Prelude.{slice_get, IsNone, IfSome, ◌↔◌}
+use Rattle.std.proofs.Common.{◌≡◌, ⊎_elim, inl, inr, true, arith, ℤ, pos, neg_ℤ, ◌<ℤ◌, ◌≤ℤ◌, refl, Option, Some, None}
+use Rattle.std.specs.Prelude.{IsNone, IfSome, ◌↔◌}
 use Rattle.std.proofs.lemmas.Int.{ints, by_lt_z}
-use Rattle.std.proofs.lemmas.Option.{slice_get_within}
 use Rattle.tz_types.specs.Amount.{IsShift}
 use Rattle.tz_types.specs.declared.rule_set.RuleSet.{RuleSet}
 use Rattle.tz_specs.specs.Occurrence.{Occurrence, precedes}
-use Rattle.tz_specs.specs.Standing.{IsOccurrence}
 use Rattle.tz_specs.specs.Effect.{ComesAt, IsInEffect, NoneInEffect}
 use Rattle.tz_specs.specs.Around.{IsToCome, IsNextChange}
 use Rattle.tz_specs.proofs.Tests.{not_both}
 use Rattle.tz_rules.specs.declared.taken.Taken.{Taken}
 use Rattle.tz_rules.specs.declared.next_change.Coming.{Coming}
-use Rattle.tz_rules.specs.Placed.{Placed, StandsIn}
+use Rattle.tz_rules.specs.Placed.{Placed}
 use Rattle.tz_rules.specs.InEffect.{IsAsGoodAs, IsState}
 use Rattle.tz_rules.specs.NextChange.{IsNext, IsNextAfter}
 use Rattle.tz_rules.specs.Taken.{Tells, IsTakenAt, IsLastTaken, IsNextTaken}

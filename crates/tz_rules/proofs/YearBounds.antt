@@ -1,8 +1,8 @@
 -- In which years occurrences near a second lie.
-use Rattle.std.proofs.Common.{◌≡◌, arith, refl, ℤ, pos, neg_ℤ, ◌+ℤ◌, ◌-ℤ◌, ◌*ℤ◌, ◌<ℤ◌, ◌≤ℤ◌}
+use Rattle.std.proofs.Common.{◌≡◌, arith, refl, ℤ, pos, neg_ℤ, ◌+ℤ◌, ◌-ℤ◌, ◌<ℤ◌, ◌≤ℤ◌}
 use Rattle.std.specs.Int.{int_max, int_min}
 use Rattle.std.proofs.lemmas.Int.{ints, by_lt_z, int_max_is, int_min_is}
-use Rattle.jiff_core.specs.Calendar.{days_from_civil, IsYear}
+use Rattle.jiff_core.specs.Calendar.{IsYear}
 use Rattle.jiff_core.proofs.SignedLemmas.{signed_arith}
 use Rattle.tz_types.specs.declared.calendar.Month.TheVariants as months
 use Rattle.tz_types.specs.declared.rule.Rule.{Rule}

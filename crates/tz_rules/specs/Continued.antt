@@ -1,5 +1,5 @@
 -- Lines of a zone that continue one another, and the names of rule sets that they give.
-use Rattle.std.specs.Prelude.{ℕ, Bool, true, false, ◌&&◌, List, [], ◌∷◌, length, nat_lt, is_some}
+use Rattle.std.specs.Prelude.{ℕ, Bool, true, false, ◌&&◌, List, [], ◌∷◌, nat_lt, is_some}
 use Rattle.tz_types.specs.declared.zone_line.LineRules.{LineRules}
 use Rattle.tz_types.specs.declared.zone_line.LineRules.TheVariants as rules
 use Rattle.tz_types.specs.declared.zone_line.ZoneLine.{ZoneLine}

@@ -17,10 +17,10 @@ first_line name least (here ∷ names) =
     first_line name (if is_exactly here.0 name then lesser_line least here.1 else least) names
 
 -- the least line lies before this one
-abbrev pub is_after : Option ℕ → ℕ → Bool
-is_after None line = false
-is_after (Some least) line = nat_lt least line
+abbrev pub has_lesser_line : Option ℕ → ℕ → Bool
+has_lesser_line None line = false
+has_lesser_line (Some least) line = nat_lt least line
 
 -- a name that has a lesser line, by the least line of each name
 abbrev pub later_name : (List ℕ → Option ℕ) → List ℕ × ℕ → Option LineFault
-later_name least_of here = fault_where (is_after (least_of here.0) here.1) here.1 causes.DuplicateName
+later_name least_of here = fault_where (has_lesser_line (least_of here.0) here.1) here.1 causes.DuplicateName

@@ -1,5 +1,5 @@
 -- Zones that begin one after another, and links that stand one after another.
-use Rattle.std.specs.Prelude.{Bool, ◌&&◌, map, filter_map, nat_lt}
+use Rattle.std.specs.Prelude.{Bool, map, filter_map, nat_lt}
 use Rattle.tz_types.specs.Order.{ascends}
 use Rattle.tz_specs.specs.Contents.{Contents}
 use Rattle.tz_specs.specs.Whole.{zone_name}

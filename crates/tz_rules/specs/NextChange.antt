@@ -1,5 +1,5 @@
 -- What comes next, and how far a search for it has come.
-use Rattle.std.specs.Prelude.{◌≡◌, ℕ, ◌<◌, ◌||◌, ◌&&◌, if◌then◌else◌, ℤ, pos, neg_ℤ, ◌-ℤ◌, ◌+ℤ◌, ◌≤ℤ◌, ◌<ℤ◌, Bool, false, IsTrue, int_lt, Option, Some, None, slice_get}
+use Rattle.std.specs.Prelude.{◌≡◌, ℕ, ◌<◌, ◌||◌, ◌&&◌, if◌then◌else◌, ℤ, pos, neg_ℤ, ◌-ℤ◌, ◌≤ℤ◌, Bool, false, IsTrue, int_lt, Option, Some, None, slice_get}
 use Rattle.std.specs.Ordering.{int_eq}
 use Rattle.tz_types.specs.declared.rule.Rule.{Rule}
 use Rattle.tz_types.specs.declared.rule_set.RuleSet.{RuleSet}
@@ -12,7 +12,7 @@ use Rattle.tz_rules.specs.declared.mark.Mark.{Mark}
 use Rattle.tz_rules.specs.declared.next_change.Coming.{Coming}
 use Rattle.tz_rules.specs.declared.next_change.Window.{Window}
 use Rattle.tz_rules.specs.Placed.{Placed, OccursIn, StandsIn}
-use Rattle.tz_rules.specs.Mark.{is_after, IsInReach, IsLatestYear, IsEarliestYear}
+use Rattle.tz_rules.specs.Mark.{is_after, IsLatestYear, IsEarliestYear}
 use Rattle.tz_rules.specs.Search.{in_year, FirstAfter}
 use Rattle.tz_rules.specs.InEffect.{saved_by}
 

@@ -1,11 +1,10 @@
 -- What is in force before any occurrence is in effect.
-use Rattle.std.proofs.Common.{◌≡◌, false, true, Bool, ◌⊎◌, inl, inr, ⊎_elim, refl, sym, ◌∙◌, List, [], ◌∷◌, ℤ, pos}
+use Rattle.std.proofs.Common.{◌≡◌, false, true, Bool, ◌⊎◌, inl, inr, ⊎_elim, refl, sym, List, [], ◌∷◌, ℤ, pos}
 use Rattle.std.specs.Ordering.{int_eq}
 use Rattle.std.proofs.lemmas.Bool.Decides.{Decides-int_eq}
-use Rattle.std.proofs.lemmas.Bool.{false_from_ne_true}
 use Rattle.tz_types.specs.declared.rule_set.RuleSet.{RuleSet}
 use Rattle.tz_specs.specs.Occurrence.{Occurrence, precedes, occurrences}
-use Rattle.tz_specs.specs.State.{in_force, state_at, instants}
+use Rattle.tz_specs.specs.State.{in_force}
 use Rattle.tz_specs.specs.Until.{Rules}
 use Rattle.tz_specs.specs.Before.{letters_before}
 use Rattle.tz_specs.specs.Expansion.{Period, state_in}

@@ -9,7 +9,7 @@ use Rattle.std.proofs.lemmas.List.Folds.{list_any_none, list_any_at}
 use Rattle.tz_types.specs.Order.{ascends, ascends_after}
 use Rattle.tz_types.specs.Leap.{sign, sum_where, running_sums}
 use Rattle.tz_types.specs.declared.leap_entry.LeapEntry.{LeapEntry}
-use Rattle.tz_specs.specs.LeapSecond.{all_seconds, sum_before, utc_count, inserted_second, counts_at, elapsed_by, is_inserted, IsHeldBack, IsCounted, IsSystemTime, IsUtcCount}
+use Rattle.tz_specs.specs.LeapSecond.{all_seconds, utc_count, inserted_second, counts_at, elapsed_by, is_inserted, IsHeldBack, IsCounted, IsSystemTime, IsUtcCount}
 use Rattle.tz_specs.specs.Expansion.{first_instant, end_of_time, IsInstant}
 
 -- ---- tests on numbers

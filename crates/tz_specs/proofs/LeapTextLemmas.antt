@@ -24,13 +24,13 @@ use Rattle.tz_specs.specs.Choice.{◌>>=◌}
 use Rattle.tz_specs.specs.Causes.{least_cause, unless_cause}
 use Rattle.tz_specs.specs.Contents.{fields_or_none}
 use Rattle.tz_specs.specs.Whole.{IsLeast}
-use Rattle.tz_specs.specs.LeapLine.{LeapRecord, SecondRecord, ExpiryRecord, LeapKind, SecondLine, ExpiryLine, leap_kind_of, entry_of, moment_of, entry_causes, leap_record_of, leap_kind_causes, leap_field_causes, leap_line_causes, leap_record_of_fields, leap_line_says}
+use Rattle.tz_specs.specs.LeapLine.{LeapRecord, SecondRecord, ExpiryRecord, LeapKind, SecondLine, ExpiryLine, leap_kind_of, moment_of, entry_causes, leap_record_of, leap_kind_causes, leap_field_causes, leap_line_causes, leap_record_of_fields, leap_line_says}
 use Rattle.tz_specs.specs.LeapText.{WrittenLeap, WrittenExpiry, LeapContents, no_leap_contents, with_leap_record, leap_fault, leap_contents_after, leap_contents_of, leap_fault_where, repeated_leap, repeated_expiry, early_expiry, leap_faults, first_moment, ReadsLeaps, RefusesWholeLeaps, RefusesLeaps}
 use Rattle.tz_specs.proofs.AscendingLemmas.{both_hold, first_or_later, is_first, is_later, never_in_none}
 use Rattle.tz_specs.proofs.TextLemmas.{least_is_one, none_is_least}
 use Rattle.tz_specs.proofs.ListLemmas.{none_first}
 use Rattle.tz_specs.proofs.FaultOrder.{least_exists}
-use Rattle.tz_specs.proofs.LeapLemmas.{above_first, ascends_later, date_at, place_of}
+use Rattle.tz_specs.proofs.LeapLemmas.{above_first, ascends_later, place_of}
 
 abbrev dates : List LeapEntry → List ℤ
 dates entries = map (λ entry. entry.date) entries

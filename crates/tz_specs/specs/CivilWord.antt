@@ -1,5 +1,5 @@
 -- A civil date and time of day as one word, `YYYY-MM-DDTHH:MM:SS`, after ISO 8601: nineteen bytes, of a year from 0 to 9999.
-use Rattle.std.specs.Prelude.{ℕ, ◌==◌, Bool, ◌&&◌, List, [], ◌∷◌, length, map, take, drop, codes, slice_index_or, ℤ, pos, Option, Some, None}
+use Rattle.std.specs.Prelude.{ℕ, ◌==◌, Bool, ◌&&◌, List, [], ◌∷◌, length, map, take, drop, codes, slice_index_or, ℤ, pos, Option}
 use Rattle.tz_types.specs.Civil.{is_civil_second, civil_second}
 use Rattle.tz_specs.specs.Choice.{◌>>=◌, only_if}
 use Rattle.tz_specs.specs.Number.{number_of}

@@ -1,5 +1,5 @@
 -- A time of day by the parts round its colons.
-use Rattle.std.proofs.Common.{◌≡◌, ℕ, ◌+◌, ◌*◌, ◌<◌, List, [], ◌∷◌, Option, Some, None, length, refl, ap, arith, ◌≤◌}
+use Rattle.std.proofs.Common.{◌≡◌, ℕ, ◌+◌, ◌*◌, ◌<◌, List, [], ◌∷◌, Option, Some, None, length, refl, ap, arith}
 use Rattle.tz_specs.specs.Choice.{◌>>=◌}
 use Rattle.tz_specs.specs.Parts.{parts_at}
 use Rattle.tz_specs.specs.LeapLine.{two_digits_of, seconds_of_parts}

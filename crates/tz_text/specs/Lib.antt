@@ -6,3 +6,4 @@ pub mod SecondOfDay
 pub mod Kept
 pub mod Piece
 pub mod Spans
+pub mod LocalTime

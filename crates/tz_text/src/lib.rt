@@ -5,11 +5,13 @@
 #![tactic(auto)]
 
 mod bytes;
+mod civil_word;
 mod clock;
 mod cut;
 mod day;
 mod digits;
 mod duration;
+mod local;
 mod output;
 mod second;
 mod table;
@@ -17,8 +19,9 @@ mod table;
 pub use clock::amount;
 pub use cut::{Fields, Joined, OpenQuote};
 pub use day::on;
-pub use digits::{signed_number, year};
+pub use digits::{number, signed_number, year};
 pub use duration::Amount;
+pub use local::local_time;
 pub use output::put_number;
 pub use second::second_of_day;
 pub use table::named;

@@ -482,7 +482,7 @@ fields_good number contents (field ∷ fields) entry few none is =
     let count = peel (causes.FieldCount, not (has_count kind.0 (length (field ∷ fields)))) (record_causes contents kind.0 (field ∷ fields)) told in
     kind_good number contents kind.0 (field ∷ fields) entry few count.1 kind.2
 
-said_good : (number : ℕ) (contents : Contents) (line : List ℕ) (said : Option Record) → GoodContents number contents → line_says contents number line ≡ Ok said → GoodContents (number + 1) (with_said said contents)
+pub said_good : (number : ℕ) (contents : Contents) (line : List ℕ) (said : Option Record) → GoodContents number contents → line_says contents number line ≡ Ok said → GoodContents (number + 1) (with_said said contents)
 unfolding line_says
 said_good number contents line None h is = later_contents number contents h
 said_good number contents line (Some entry) h is =
@@ -508,7 +508,7 @@ after_said : (line : List ℕ) (lines : List (List ℕ)) (number last : ℕ) (co
 after_said line lines number last contents given h later (Ok said) from is = later said (said_good number contents line said h from) is
 after_said line lines number last contents given h later (Err cause) from is = absurd (cc)
 
-contents_good : (lines : List (List ℕ)) (number : ℕ) (contents given : Contents) → GoodContents number contents → contents_after contents number lines ≡ Ok given → GoodContents (number + length lines) given
+pub contents_good : (lines : List (List ℕ)) (number : ℕ) (contents given : Contents) → GoodContents number contents → contents_after contents number lines ≡ Ok given → GoodContents (number + length lines) given
 unfolding contents_after
 contents_good [] number contents given h is =
     let same : contents ≡ given = cc in
@@ -530,7 +530,7 @@ after-gives file files number contents (Ok after) is = rw (contents_over, is) re
 after-gives file files number contents (Err fault) is = rw (contents_over, is) refl
 
 -- the end of a file changes no range
-ended : (number : ℕ) (contents : Contents) → GoodContents number contents → GoodContents number (at_end_of_file contents)
+pub ended : (number : ℕ) (contents : Contents) → GoodContents number contents → GoodContents number (at_end_of_file contents)
 ended number contents good = record {
   sets = good.sets;
   sets_ascend = good.sets_ascend;
@@ -556,10 +556,12 @@ over_good (file ∷ files) number contents given h is =
     after_file files (number + length (lines_of file)) given (λ next good is. over_good files (number + length (lines_of file)) next given good is) (contents_after contents number (lines_of file)) (λ after gives. contents_good (lines_of file) number contents after h gives)
     (sym (after-gives file files number contents (contents_after contents number (lines_of file)) refl) ∙ is)
 
+-- before any line
+pub none_good : GoodContents 1 no_contents
+none_good =
+    record { sets = tt; sets_ascend = refl; few_sets = omega arith; zones = tt; zones_rise = refl; few_zones = omega arith; links = tt; links_rise = refl; few_links = omega arith }
+
 -- what files give is in its ranges
 pub files_good : (files : List (List ℕ)) (given : Contents) → contents_of files ≡ Ok given → (last : ℕ) × GoodContents last given
 unfolding contents_of
-files_good files given is =
-    let none : GoodContents 1 no_contents =
-    record { sets = tt; sets_ascend = refl; few_sets = omega arith; zones = tt; zones_rise = refl; few_zones = omega arith; links = tt; links_rise = refl; few_links = omega arith } in
-    over_good files 1 no_contents given none is
+files_good files given is = over_good files 1 no_contents given none_good is

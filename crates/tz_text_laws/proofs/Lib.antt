@@ -9,3 +9,9 @@ pub mod Making
 pub mod Sorting
 pub mod Zones
 pub mod Existing
+pub mod Continued
+pub mod Soundness
+pub mod WithinLimits
+pub mod Reaching
+pub mod SetsOfRecords
+pub mod Standing

@@ -2,13 +2,58 @@
 //! no code here.
 #![tactic(auto)]
 
-ghost use Rattle.std.specs.Prelude.{◌⊎◌};
+ghost use Rattle.std.specs.Prelude.{◌≡◌, ◌⊎◌, ◌↔◌, ℕ, List, filter_map, slice_get, Some, Ok, IsTrue};
+ghost use Rattle.std.specs.List.{list_all, Contains};
+ghost use Rattle.tz_types.specs.Text.{IsText};
 ghost use Rattle.tz_types.specs.declared.fault.Fault.{Fault};
+ghost use Rattle.tz_types.specs.declared.zone.Zone.{Zone};
+ghost use Rattle.tz_types.specs.declared.link.Link.{Link};
 ghost use Rattle.tz_types.specs.declared.source.Source.{Source};
 ghost use Rattle.tz_types.specs.declared.database.Db.{Db};
+ghost use Rattle.tz_specs.specs.Written.{WrittenLink};
+ghost use Rattle.tz_specs.specs.Contents.{Contents, contents_of};
+ghost use Rattle.tz_specs.specs.Whole.{zone_of_link};
+ghost use Rattle.tz_specs.specs.Sound.{is_sound};
 ghost use Rattle.tz_specs.specs.Reads.{Reads, Refuses};
+ghost use Rattle.tz_text_laws.specs.Limits.{IsVersionGiven, has_lines};
+ghost use Rattle.tz_text_laws.specs.Reaches.{Reaches};
+ghost use Rattle.tz_text_laws.specs.Records.{records_of, rule_named, rules_in, link_said};
 
 /// Each source is read as a database, or refused with a fault.
 pub fn each_source_is_read_or_refused()
     ensures { (source : Source) → ((db : Db) × Reads source db) ⊎ ((fault : Fault) × Refuses source fault) }
+{}
+
+/// A database that a source is read as is sound: its zones run through all of time, and its links lead to zones.
+pub fn read_databases_are_sound()
+    ensures { (source : Source) (db : Db) → Reads source db → IsTrue (is_sound db) }
+{}
+
+/// A database that a source is read as has a version of 1 to 64 bytes, where the one that is given has, and each of its zones
+/// has 1 to 255 lines.
+pub fn read_databases_keep_limits()
+    ensures version { (source : Source) (db : Db) → Reads source db → IsVersionGiven source.version → IsText 1 64 db.version }
+    ensures lines { (source : Source) (db : Db) → Reads source db → IsTrue (list_all has_lines db.zones) }
+{}
+
+/// The zone to which a link leads is the one that its target reaches through links of any number.
+pub fn links_lead_where_their_targets_reach()
+    ensures { (contents : Contents) (link : WrittenLink) (zone : List ℕ) →
+        (zone_of_link contents link ≡ Some zone) ↔ Reaches contents.zones contents.links link.target zone }
+{}
+
+/// The rules of a set are those of the Rule records of its name, and the links are those of the Link records, in the order of the
+/// lines of all files.
+pub fn sets_and_links_are_those_of_records()
+    ensures rules { (files : List (List ℕ)) (contents : Contents) (name : List ℕ) → contents_of files ≡ Ok contents →
+        rules_in name contents.sets ≡ filter_map (rule_named name) (records_of files) }
+    ensures links { (files : List (List ℕ)) (contents : Contents) → contents_of files ≡ Ok contents →
+        contents.links ≡ filter_map link_said (records_of files) }
+{}
+
+/// A link of a database that a source is read as has the place of the zone that its target reaches.
+pub fn links_stand_for_zones_that_they_reach()
+    ensures { (source : Source) (db : Db) (reads : Reads source db) (link : Link) → Contains db.links link →
+        (zone : Zone) × (slice_get db.zones link.zone ≡ Some zone)
+        × Reaches reads.contents.zones reads.contents.links link.target zone.name }
 {}

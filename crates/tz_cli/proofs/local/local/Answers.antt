@@ -9,4 +9,4 @@ returns-in-Ok-clause-answers c =
     let fits : FitsSigned w64 c.args.l = c.ranges.l in
     let line = simp to_z-of_z at c.local_in.ensures.line in
     let refused = simp to_z-of_z at c.local_in.ensures.refused in
-    local_gives c.args.text.now c.args.name.now c.args.l c.args.choice c.in-Ok.zone c.local_in.result c.in-Ok.ensures.ok line refused
+    local_gives c.args.source.now c.args.name.now c.args.l c.args.choice c.in-Ok.zone c.local_in.result c.in-Ok.ensures.ok line refused

@@ -12,7 +12,7 @@ returns-in-Ok-compile-clause-ok c =
     let db = c.in-Ok.db in
     let named = sym c.in-Some.ensures in
     let low = place_within c.args.name.now db c.in-Some.place c.in-Ok.ensures.sound named in
-    found_zone c.args.text.now c.args.name.now db c.in-Some.place c.in-Ok-compile.zone c.in-Ok.ensures.ok named low c.in-Ok-compile.ensures
+    found_zone c.args.source.now c.args.name.now db c.in-Some.place c.in-Ok-compile.zone c.in-Ok.ensures.ok named low c.in-Ok-compile.ensures
 
 pub returns-in-None-clause-refused : goal.returns-in-None-clause-refused
 returns-in-None-clause-refused c = record { db = c.in-Ok.db; reads = c.in-Ok.ensures.ok; none = sym c.in-None.ensures }

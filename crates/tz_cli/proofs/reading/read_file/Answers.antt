@@ -1,14 +1,12 @@
 use Rattle.std.proofs.Common.{◌≤◌, length, arith}
-use Rattle.tz_cli.specs.Answer.{most_bytes}
 use Rattle.tz_cli.proofs.Contents.{may_read, too_large}
 use Rattle.tz_cli.proofs.reading.read_file.Goals as goal
 
-pub returns-then-len-gt-MOST_BYTES-clause-refused :
-    goal.returns-then-len-gt-MOST_BYTES-clause-refused
-returns-then-len-gt-MOST_BYTES-clause-refused g c =
-    too_large (g.F.Files.told c.args.files.now) c.args.name.now c.in-Ok.content.items c.in-Ok.ensures.bytes (omega arith)
+pub returns-then-len-left-clause-refused : goal.returns-then-len-left-clause-refused
+returns-then-len-left-clause-refused g c =
+    too_large (g.F.Files.told c.args.files.now) c.args.name.now c.args.left c.in-Ok.bytes.items c.in-Ok.ensures.bytes (omega arith)
 
 pub returns-clause-content : goal.returns-clause-content
 returns-clause-content g c =
-    let short : length c.in-Ok.content.items ≤ most_bytes = omega arith in
-    may_read (g.F.Files.told c.args.files.now) c.args.name.now c.in-Ok.content.items c.in-Ok.ensures.bytes short
+    let short : length c.in-Ok.bytes.items ≤ c.args.left = omega arith in
+    may_read (g.F.Files.told c.args.files.now) c.args.name.now c.args.left c.in-Ok.bytes.items c.in-Ok.ensures.bytes short

@@ -32,11 +32,11 @@ returns-in-None-clause-part g c = λ is.
     (statuses.Usage, codes "usage\n", (c.in-None.ensures.none (search rules), refl), c.print.ensures.part ended)
 
 pub returns-in-Some-clause-exact : goal.returns-in-Some-clause-exact
-returns-in-Some-clause-exact g c = λ command content status line is told answer fine no_fault no_stall.
+returns-in-Some-clause-exact g c = λ command contents status line is holds answer fine no_fault no_stall.
     let files = g.F.Files.told c.args.files.now in
     let failed = Failed (g.F.Files.faults c.args.files.now) (g.F.Files.faults c.run_command.new.files) in
     let ended = c.run_command.result in
     let whole = c.run_command.ensures.whole (λ write. ⊎_elim no_fault no_stall (c.run_command.ensures.write write)) in
     let same = one_command (words_of c.args.words.now) (meant c.in-Some.command) command c.in-Some.ensures.some is in
     let due = rw same at whole.1 in
-    ⊎_elim (λ (e : ended ≡ status). inl (ap Done e)) (λ (e : ended ≡ statuses.Memory). inr (ap Done e)) (one_due command files failed content status ended line whole.0 told answer fine due)
+    ⊎_elim (λ (e : ended ≡ status). inl (ap Done e)) (λ (e : ended ≡ statuses.Memory). inr (ap Done e)) (one_due command files failed contents status ended line whole.0 holds answer fine due)

@@ -19,9 +19,11 @@ returns-in-Some-local_time-clause-some c =
     let time_fits : FitsSigned w64 c.in-Some-local_time.time = search rules in
     let is_word : c.as_str.result.now ≡ codes "local" = alike c.as_str.result.now (codes "local") c.if-ne.ensures in
     let first : string_bytes keyword ≡ codes "local" = sym c.as_str.ensures.value ∙ is_word in
-    let last : string_bytes choice ≡ choice_word c.in-Some.choice = sym c.as_str-in-len5.ensures.value ∙ c.in-Some.ensures.some in
-    rw (to_z-of_z, c.as_str-in-Some-local_time.ensures.value, c.as_str-in-Some-local_time-2.ensures.value) (record {
+    let last : string_bytes choice ≡ choice_word c.in-Some-from_word.choice = sym c.as_str-in-len5-2.ensures.value ∙ c.in-Some-from_word.ensures.some in
+    rw (to_z-of_z, c.as_str-in-Some-local_time.ensures.value) (record {
+      word = string_bytes text;
       time = string_bytes time;
       words_are = ap words_of all ∙ ap (λ (word : List ℕ). word ∷ string_bytes text ∷ string_bytes zone ∷ string_bytes time ∷ string_bytes choice ∷ []) first ∙ ap (λ (word : List ℕ). codes "local" ∷ string_bytes text ∷ string_bytes zone ∷ string_bytes time ∷ word ∷ []) last;
+      text_is = sym (rw c.as_str-in-len5.ensures.value at c.in-Some.ensures);
       time_is = sym (rw c.as_bytes.ensures.value at c.in-Some-local_time.ensures);
     })

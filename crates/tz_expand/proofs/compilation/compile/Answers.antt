@@ -1,4 +1,4 @@
-use Rattle.std.proofs.Common.{◌≡◌, get_or, sym, ap, ◌∙◌}
+use Rattle.std.proofs.Common.{◌≡◌, get_or, ap, ◌∙◌}
 use Rattle.tz_types.specs.declared.zone.Zone.{Zone}
 use Rattle.tz_specs.specs.Expansion.{periods_of, periods_from, first_instant}
 use Rattle.tz_expand.proofs.SoundZones.{zone_leads, zone_known, same_zone}

@@ -1,11 +1,7 @@
-use Rattle.std.proofs.Common.{◌≡◌, refl, ℕ, ◌+◌, ◌-◌, ◌*◌, ◌∙◌, sym, ap, arith, rules, length, FitsSigned, List}
+use Rattle.std.proofs.Common.{refl, ◌+◌, ◌-◌, ◌∙◌, sym, ap, arith, rules, length, FitsSigned}
 use Rattle.std.specs.Prelude.{reverse}
 use Rattle.std.specs.Int.{w64}
 use Rattle.std.proofs.lemmas.Int.{to_z-of_z}
-use Rattle.tz_specs.specs.RulesFollowed.{most_rules_followed}
-use Rattle.tz_expand.specs.declared.compiled_line.CompiledLine.{CompiledLine}
-use Rattle.tz_expand.specs.Compiled.{periods}
-use Rattle.tz_expand.specs.Stretch.{line_meets, lines_between}
 use Rattle.tz_expand.proofs.Between.{lines_none, line_told, line_takes_time, line_counted, zone_counted, all_lines_told, written_back}
 use Rattle.tz_expand.proofs.expansion.expand_between.Goals as goal
 

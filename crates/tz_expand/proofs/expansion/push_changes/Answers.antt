@@ -1,15 +1,13 @@
-use Rattle.std.proofs.Common.{◌≡◌, Vec, Global, suc, ◌<ℤ◌, ◌≤ℤ◌, ◌+◌, ◌-◌, ◌++◌, ◌∷◌, [], length, pos, sym, ap, ◌∙◌, arith, rules, FitsSigned, to_z, of_z, List}
-use Rattle.std.specs.Prelude.{slice_get, reverse}
-use Rattle.std.specs.Int.{w64, int_max, int_min}
+use Rattle.std.proofs.Common.{◌≡◌, Vec, Global, suc, ◌<ℤ◌, ◌≤ℤ◌, ◌+◌, ◌-◌, ◌++◌, ◌∷◌, [], length, pos, sym, ap, ◌∙◌, arith, rules, FitsSigned}
+use Rattle.std.specs.Prelude.{reverse}
+use Rattle.std.specs.Int.{w64, int_max}
 use Rattle.std.proofs.lemmas.Int.{ints, clamps, to_z-of_z}
 use Rattle.std.proofs.lemmas.Option.{get_or_from_slice_get}
 use Rattle.tz_types.specs.declared.range.SysInfo.{SysInfo}
 use Rattle.tz_specs.specs.Occurrence.{Occurrence}
-use Rattle.tz_specs.specs.State.{put_in_force}
-use Rattle.tz_specs.specs.Expansion.{Period, range_of}
 use Rattle.tz_specs.proofs.EffectLemmas.{instants-back}
 use Rattle.tz_expand.specs.Compiled.{period_of}
-use Rattle.tz_expand.proofs.Told.{Telling, Turn, telling_none, turn_of, turn_in_force, turn_range, turn_last, turn_behind, turn_none, telling_as, section_of, put_by_is, standard_is, range_is, rest_in_force, rest_told}
+use Rattle.tz_expand.proofs.Told.{Telling, telling_none, turn_of, turn_in_force, turn_range, turn_last, turn_behind, turn_none, telling_as, section_of, put_by_is, standard_is, range_is, rest_in_force, rest_told}
 use Rattle.tz_expand.proofs.expansion.push_changes.Goals as goal
 use Rattle.tz_expand.proofs.expansion.push_changes.Goals.{then-begin-end+then-begin-to+in_ok-push, then-begin-end+else-begin-to, else-begin-end}
 

@@ -1,4 +1,4 @@
-use Rattle.std.proofs.Common.{◌≡◌, ◌<◌, length, get_or, rules, ap, arith}
+use Rattle.std.proofs.Common.{◌≡◌, get_or}
 use Rattle.tz_expand.proofs.Told.{standard_is}
 use Rattle.tz_expand.proofs.Lines.{state_taken, state_none, taken_within}
 use Rattle.tz_expand.proofs.info.in_force_under.Goals as goal

@@ -1,4 +1,4 @@
-use Rattle.std.proofs.Common.{◌≡◌, ◌<ℤ◌, ◌≤ℤ◌, rules, arith, FitsSigned}
+use Rattle.std.proofs.Common.{◌≤ℤ◌, rules, arith, FitsSigned}
 use Rattle.std.specs.Int.{w64}
 use Rattle.std.proofs.lemmas.Int.{ints, to_z-of_z}
 use Rattle.tz_specs.specs.RulesFollowed.{rules_followed, most_rules_followed}

@@ -1,5 +1,5 @@
-use Rattle.std.proofs.Common.{◌+◌, ◌≤◌, length, arith}
-use Rattle.tz_expand.specs.Looks.{since, through, looks_of, looks_count, years_through}
+use Rattle.std.proofs.Common.{length}
+use Rattle.tz_expand.specs.Looks.{looks_of, looks_count, years_through}
 use Rattle.tz_expand.proofs.LookLemmas.{set_pushed, steps_more, steps_within, few_looks_at}
 use Rattle.tz_expand.proofs.looks.looks_in_years.Goals as goal
 

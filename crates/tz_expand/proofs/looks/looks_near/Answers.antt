@@ -5,7 +5,6 @@ use Rattle.std.proofs.lemmas.Int.{to_z-of_z}
 use Rattle.std.proofs.lemmas.Result.{IfOk-weaker}
 use Rattle.tz_expand.specs.Looks.{AreLooksNear, AreInOrder, looks_of_set, years_through}
 use Rattle.tz_expand.proofs.LookLemmas.{years_touched}
-use Rattle.tz_expand.proofs.Told.{rest_told}
 use Rattle.tz_expand.proofs.looks.looks_near.Goals as goal
 
 pub returns-clause-looks : goal.returns-clause-looks

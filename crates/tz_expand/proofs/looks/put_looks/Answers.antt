@@ -1,6 +1,6 @@
-use Rattle.std.proofs.Common.{◌≡◌, ◌+◌, ◌++◌, ◌≤ℤ◌, ◌+ℤ◌, pos, rules, arith, FitsSigned, to_z, of_z}
+use Rattle.std.proofs.Common.{◌+◌, ◌≤ℤ◌, rules, arith, FitsSigned, to_z, of_z}
 use Rattle.std.specs.Int.{w32}
-use Rattle.std.proofs.lemmas.Int.{ints, to_z-of_z}
+use Rattle.std.proofs.lemmas.Int.{ints}
 use Rattle.tz_expand.specs.Looks.{since, through}
 use Rattle.tz_expand.proofs.LookLemmas.{within_years, look_low, look_high, since-years, through-years, look_pushed}
 use Rattle.tz_expand.proofs.looks.put_looks.Goals as goal

@@ -1,8 +1,7 @@
-use Rattle.std.proofs.Common.{◌≡◌, ◌∙◌, ap, sym, List, length, take, get_or, int_le, ℤ, pos, ◌-ℤ◌, ◌+ℤ◌, false, if◌then◌else◌, rules, arith, to_z, of_z, FitsSigned}
+use Rattle.std.proofs.Common.{◌≡◌, ap, List, get_or, pos, ◌-ℤ◌, ◌+ℤ◌, false, if◌then◌else◌, rules, arith, to_z, of_z, FitsSigned}
 use Rattle.std.specs.Int.{w64}
 use Rattle.std.proofs.lemmas.Int.{ints, to_z-of_z}
 use Rattle.tz_types.specs.declared.leap_entry.LeapEntry.{LeapEntry}
-use Rattle.tz_specs.specs.LeapSecond.{all_seconds}
 use Rattle.tz_specs.proofs.LeapLemmas.{date_at, added_at, entry_at}
 use Rattle.tz_leap.proofs.SearchLemmas.{counts_is}
 use Rattle.tz_leap.proofs.search.counts_at.Goals as goal

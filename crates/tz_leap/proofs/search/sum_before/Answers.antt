@@ -1,7 +1,6 @@
-use Rattle.std.proofs.Common.{◌≡◌, ◌≤◌, length, take, get_or, pos, ap, sym, ◌∙◌, arith, to_z, of_z, FitsSigned}
+use Rattle.std.proofs.Common.{◌≡◌, take, ◌∙◌, arith, to_z, of_z}
 use Rattle.std.specs.Int.{w64}
-use Rattle.std.proofs.lemmas.Int.{ints, to_z-of_z}
-use Rattle.tz_types.specs.Leap.{running_sums}
+use Rattle.std.proofs.lemmas.Int.{ints}
 use Rattle.tz_specs.specs.LeapSecond.{all_seconds}
 use Rattle.tz_leap.proofs.SearchLemmas.{sum_looked_up, place_of_sum, sum_within}
 use Rattle.tz_leap.proofs.search.sum_before.Goals as goal

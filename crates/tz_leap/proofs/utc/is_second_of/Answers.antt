@@ -1,10 +1,9 @@
-use Rattle.std.proofs.Common.{◌≡◌, ◌∙◌, ap, sym, List, length, take, get_or, true, false, nat_eq, ◌&&◌, ℤ, pos, ◌-ℤ◌, rules, refl, arith, to_z, of_z, FitsSigned}
+use Rattle.std.proofs.Common.{◌≡◌, ◌∙◌, ap, sym, List, get_or, true, false, ℤ, pos, ◌-ℤ◌, rules, arith, to_z, of_z, FitsSigned}
 use Rattle.std.specs.Int.{w64}
 use Rattle.std.specs.Ordering.{int_eq}
-use Rattle.std.proofs.lemmas.Int.{ints, to_z-of_z}
+use Rattle.std.proofs.lemmas.Int.{ints}
 use Rattle.std.proofs.lemmas.List.{get_or_default}
 use Rattle.tz_types.specs.declared.leap_entry.LeapEntry.{LeapEntry}
-use Rattle.tz_specs.specs.LeapSecond.{all_seconds}
 use Rattle.tz_specs.proofs.LeapLemmas.{no_entry, date_at, added_at, entry_at}
 use Rattle.tz_leap.proofs.SearchLemmas.{same_bits}
 use Rattle.tz_leap.proofs.utc.is_second_of.Goals as goal

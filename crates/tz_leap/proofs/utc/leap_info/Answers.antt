@@ -1,9 +1,9 @@
-use Rattle.std.proofs.Common.{◌≡◌, ◌∙◌, ap, true, sym, ℤ, ◌-ℤ◌, ◌+ℤ◌, take, arith, to_z, of_z, FitsSigned}
+use Rattle.std.proofs.Common.{◌≡◌, ◌∙◌, ◌-ℤ◌, arith, to_z, of_z, FitsSigned}
 use Rattle.std.specs.Int.{w64}
 use Rattle.std.specs.List.{count_by}
 use Rattle.std.proofs.lemmas.Int.{ints, to_z-of_z}
 use Rattle.jiff_core.specs.Calendar.{IsWithin}
-use Rattle.tz_specs.specs.LeapSecond.{all_seconds, counts_at, is_inserted, is_past}
+use Rattle.tz_specs.specs.LeapSecond.{counts_at, is_inserted, is_past}
 use Rattle.tz_leap.proofs.SearchLemmas.{time_from_count, elapsed_is, law_from_count}
 use Rattle.tz_leap.proofs.utc.leap_info.Goals as goal
 

@@ -1,9 +1,9 @@
-use Rattle.std.proofs.Common.{◌≡◌, ◌∙◌, true, sym, ℤ, ◌-ℤ◌, take, arith, to_z, of_z, FitsSigned}
+use Rattle.std.proofs.Common.{◌≡◌, ◌∙◌, ◌-ℤ◌, arith, to_z, of_z, FitsSigned}
 use Rattle.std.specs.Int.{w64}
 use Rattle.std.specs.List.{count_by}
 use Rattle.std.proofs.lemmas.Int.{ints, to_z-of_z}
 use Rattle.jiff_core.specs.Calendar.{IsWithin}
-use Rattle.tz_specs.specs.LeapSecond.{all_seconds, counts_at}
+use Rattle.tz_specs.specs.LeapSecond.{counts_at}
 use Rattle.tz_leap.proofs.SearchLemmas.{time_from_count, elapsed_is}
 use Rattle.tz_leap.proofs.utc.sys_of_utc.Goals as goal
 

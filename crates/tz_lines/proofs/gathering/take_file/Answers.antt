@@ -1,4 +1,4 @@
-use Rattle.std.proofs.Common.{◌≡◌, ℕ, ◌+◌, length, sym, ap, ◌∙◌}
+use Rattle.std.proofs.Common.{ℕ, ◌+◌, length, sym, ap, ◌∙◌}
 use Rattle.tz_specs.specs.Line.{lines_of}
 use Rattle.tz_specs.specs.Contents.{Contents, contents_over}
 use Rattle.tz_lines.specs.Gathered.{contents_gathered}

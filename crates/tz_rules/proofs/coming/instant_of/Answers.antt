@@ -1,6 +1,6 @@
-use Rattle.std.proofs.Common.{rules, arith, FitsSigned}
+use Rattle.std.proofs.Common.{rules, FitsSigned}
 use Rattle.std.specs.Int.{w64}
-use Rattle.std.proofs.lemmas.Int.{ints, to_z-of_z}
+use Rattle.std.proofs.lemmas.Int.{to_z-of_z}
 use Rattle.tz_rules.proofs.Instants.{comes_under}
 use Rattle.tz_rules.proofs.coming.instant_of.Goals as goal
 

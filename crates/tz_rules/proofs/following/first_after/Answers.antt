@@ -1,4 +1,3 @@
-use Rattle.std.proofs.Common.{refl}
 use Rattle.tz_rules.proofs.AfterMark.{next_of_mark}
 use Rattle.tz_rules.proofs.following.first_after.Goals as goal
 

@@ -1,4 +1,4 @@
-use Rattle.std.proofs.Common.{◌≡◌, ◌≤◌, ◌+◌, ◌-◌, ◌*◌, length, arith, subst, ℕ}
+use Rattle.std.proofs.Common.{◌≡◌, ◌+◌, ◌-◌, length, arith, subst, ℕ}
 use Rattle.tz_rules.specs.Search.{IsFirstFrom}
 use Rattle.tz_rules.proofs.AfterMark.{first_of_all}
 use Rattle.tz_rules.proofs.following.first_after_mark.Goals as goal

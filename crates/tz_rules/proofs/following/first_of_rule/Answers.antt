@@ -1,4 +1,4 @@
-use Rattle.std.proofs.Common.{◌≡◌, ◌≤◌, ◌∙◌, sym, rules, arith, FitsSigned, pos, ◌+ℤ◌}
+use Rattle.std.proofs.Common.{◌≤◌, ◌∙◌, sym, rules, arith, FitsSigned, pos, ◌+ℤ◌}
 use Rattle.std.specs.Int.{w32}
 use Rattle.std.proofs.lemmas.Int.{ints, to_z-of_z}
 use Rattle.tz_rules.proofs.AfterMark.{none_below_first, none_below_more, two_looks_on, look_on_occurs, look_on_through, first_is, none_on}

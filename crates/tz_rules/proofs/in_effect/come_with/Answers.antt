@@ -1,6 +1,6 @@
-use Rattle.std.proofs.Common.{◌≡◌, rules, arith, FitsSigned, None, Some, refl}
+use Rattle.std.proofs.Common.{FitsSigned, refl}
 use Rattle.std.specs.Int.{w32, w64}
-use Rattle.std.proofs.lemmas.Int.{ints, to_z-of_z}
+use Rattle.std.proofs.lemmas.Int.{to_z-of_z}
 use Rattle.tz_rules.proofs.BeforeMark.{rule_at, own_stands}
 use Rattle.tz_rules.proofs.EffectSearch.{come_none, come_not_later, come_later}
 use Rattle.tz_rules.proofs.in_effect.come_with.Goals as goal

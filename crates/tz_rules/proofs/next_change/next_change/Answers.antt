@@ -1,6 +1,6 @@
-use Rattle.std.proofs.Common.{◌∙◌, rules, arith, FitsSigned}
+use Rattle.std.proofs.Common.{◌∙◌, arith, FitsSigned}
 use Rattle.std.specs.Int.{w64}
-use Rattle.std.proofs.lemmas.Int.{ints, to_z-of_z}
+use Rattle.std.proofs.lemmas.Int.{to_z-of_z}
 use Rattle.tz_rules.proofs.ChangeSearch.{none_to_come, first_is_soonest, soonest_is_next}
 use Rattle.tz_rules.proofs.next_change.next_change.Goals as goal
 

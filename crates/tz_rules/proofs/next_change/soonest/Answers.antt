@@ -1,4 +1,4 @@
-use Rattle.std.proofs.Common.{◌≡◌, ℕ, subst, length, rules, arith, FitsSigned}
+use Rattle.std.proofs.Common.{◌≡◌, ℕ, subst, length, arith, FitsSigned}
 use Rattle.std.specs.Int.{w64}
 use Rattle.std.proofs.lemmas.Int.{to_z-of_z}
 use Rattle.tz_rules.specs.NextChange.{IsSoonest}

@@ -1,7 +1,6 @@
-use Rattle.std.proofs.Common.{◌≡◌, ◌+ℤ◌, pos, refl, rules, arith, FitsSigned}
+use Rattle.std.proofs.Common.{refl, rules, arith, FitsSigned}
 use Rattle.std.specs.Int.{w32, w64}
 use Rattle.std.proofs.lemmas.Int.{ints, to_z-of_z}
-use Rattle.tz_specs.specs.Occurrence.{nominal_of}
 use Rattle.tz_rules.proofs.ChangeSearch.{window_is}
 use Rattle.tz_rules.proofs.next_change.window_from.Goals as goal
 

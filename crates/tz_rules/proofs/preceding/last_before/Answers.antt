@@ -1,4 +1,3 @@
-use Rattle.std.proofs.Common.{refl}
 use Rattle.tz_rules.proofs.BeforeMark.{previous_of_mark}
 use Rattle.tz_rules.proofs.preceding.last_before.Goals as goal
 

@@ -1,4 +1,4 @@
-use Rattle.std.proofs.Common.{◌≡◌, ◌≤◌, ◌+◌, ◌-◌, ◌*◌, length, arith, subst, ℕ}
+use Rattle.std.proofs.Common.{◌≡◌, ◌+◌, ◌-◌, length, arith, subst, ℕ}
 use Rattle.tz_rules.specs.Search.{IsLastFrom}
 use Rattle.tz_rules.proofs.BeforeMark.{last_of_all}
 use Rattle.tz_rules.proofs.preceding.last_before_mark.Goals as goal

@@ -1,6 +1,6 @@
-use Rattle.std.proofs.Common.{rules, refl, arith, FitsSigned}
+use Rattle.std.proofs.Common.{refl, arith, FitsSigned}
 use Rattle.std.specs.Int.{w64}
-use Rattle.std.proofs.lemmas.Int.{ints, to_z-of_z}
+use Rattle.std.proofs.lemmas.Int.{ints}
 use Rattle.tz_rules.proofs.BeforeMark.{last_by_mark}
 use Rattle.tz_rules.proofs.preceding.last_by.Goals as goal
 

@@ -1,9 +1,7 @@
-use Rattle.std.proofs.Common.{◌≡◌, ◌≤◌, ◌+◌, ◌∙◌, sym, refl, rules, arith, FitsSigned, pos, ◌+ℤ◌, ◌-ℤ◌, ◌≤ℤ◌}
-use Rattle.std.specs.Int.{w32, w64}
+use Rattle.std.proofs.Common.{◌≤◌, ◌∙◌, sym, rules, arith, FitsSigned, pos, ◌-ℤ◌}
+use Rattle.std.specs.Int.{w32}
 use Rattle.std.proofs.lemmas.Int.{ints, to_z-of_z}
-use Rattle.tz_rules.specs.Search.{IsFirstYear, IsLastYear, in_year}
-use Rattle.tz_rules.specs.Placed.{Placed}
-use Rattle.tz_rules.proofs.BeforeMark.{NoneAbove, none_above_last, none_above_more, two_looks, look_occurs, look_since, last_is, none_is}
+use Rattle.tz_rules.proofs.BeforeMark.{none_above_last, none_above_more, two_looks, look_occurs, look_since, last_is, none_is}
 use Rattle.tz_rules.proofs.preceding.last_of_rule.Goals as goal
 
 pub loop-back-init : goal.loop-back-init

@@ -1,8 +1,6 @@
-use Rattle.std.proofs.Common.{◌≡◌, rules, FitsSigned, None, Some}
-use Rattle.std.specs.Prelude.{slice_get}
+use Rattle.std.proofs.Common.{rules, FitsSigned, None, Some}
 use Rattle.std.specs.Int.{w32}
 use Rattle.std.proofs.lemmas.Int.{to_z-of_z}
-use Rattle.tz_rules.specs.Search.{IsLastOfRule, since_of, later_of}
 use Rattle.tz_rules.proofs.BeforeMark.{rule_at, last_with_is}
 use Rattle.tz_rules.proofs.preceding.last_with.Goals as goal
 

@@ -1,4 +1,4 @@
-use Rattle.std.proofs.Common.{rules, arith, FitsSigned, pos, neg_ℤ, ◌≤ℤ◌}
+use Rattle.std.proofs.Common.{rules, arith, FitsSigned, pos, ◌≤ℤ◌}
 use Rattle.std.specs.Int.{w32}
 use Rattle.std.proofs.lemmas.Int.{ints, to_z-of_z}
 use Rattle.tz_rules.proofs.YearBounds.{min_greatest}

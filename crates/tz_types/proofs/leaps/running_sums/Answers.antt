@@ -1,7 +1,6 @@
 use Rattle.std.proofs.Common.{◌≡◌, ◌≤◌, ◌<◌, length, pos, false, ℤ, ◌+ℤ◌, ap, arith, to_z, of_z}
 use Rattle.std.specs.Int.{w64}
 use Rattle.std.proofs.lemmas.Int.{ints}
-use Rattle.tz_types.specs.Leap.{sign}
 use Rattle.tz_types.specs.Limit.{most_leaps}
 use Rattle.tz_types.specs.declared.leap_entry.LeapEntry.{LeapEntry}
 use Rattle.tz_types.proofs.LeapSums.{sums_more}

@@ -1,6 +1,5 @@
-use Rattle.std.proofs.Common.{◌≡◌, ◌≤◌, ◌<◌, ◌+◌, length, ◌++◌, drop, pos, ◌≤ℤ◌, neg_ℤ}
-use Rattle.jiff_core.specs.Calendar.{IsWithin}
-use Rattle.tz_types.specs.Leap.{sign, running_sums}
+use Rattle.std.proofs.Common.{◌≡◌, ◌++◌, drop, pos, ◌≤ℤ◌, neg_ℤ}
+use Rattle.tz_types.specs.Leap.{running_sums}
 use Rattle.tz_types.proofs.leaps.running_sums.Given as goal
 
 -- the sums so far, with those from the sum of all entries so far on

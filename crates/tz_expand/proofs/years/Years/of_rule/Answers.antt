@@ -1,7 +1,6 @@
-use Rattle.std.proofs.Common.{◌≡◌, rules, arith, FitsSigned, to_z, of_z, ◌-ℤ◌, pos, ◌∙◌}
+use Rattle.std.proofs.Common.{rules, arith, FitsSigned, to_z, of_z, ◌-ℤ◌, pos, ◌∙◌}
 use Rattle.std.specs.Int.{w32}
 use Rattle.std.proofs.lemmas.Int.{ints, clamps, to_z-of_z}
-use Rattle.tz_expand.specs.Looks.{since, through}
 use Rattle.tz_expand.proofs.LookLemmas.{first_look_is, last_look_is, through_bounds}
 use Rattle.tz_expand.proofs.years.Years.of_rule.Goals as goal
 

@@ -1,4 +1,4 @@
-use Rattle.std.proofs.Common.{rules, arith, FitsSigned}
+use Rattle.std.proofs.Common.{arith, FitsSigned}
 use Rattle.std.specs.Int.{w64}
 use Rattle.std.proofs.lemmas.Int.{ints, to_z-of_z}
 use Rattle.tz_rules.proofs.rule_year.RuleYear.instant_after.Goals as goal

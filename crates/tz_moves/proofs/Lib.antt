@@ -1,0 +1,6 @@
+pub mod ListLemmas
+pub mod MoveLemmas
+pub mod WalkLemmas
+pub mod StretchLemmas
+pub mod DayLemmas
+pub mod CountLemmas

@@ -1,0 +1,39 @@
+-- What the contents that a script has given so far stand for, and what may follow them.
+use Rattle.std.specs.Prelude.{◌≡◌, ℕ, ◌<◌, ◌≤◌, not, Option, Some, None, IsTrue}
+use Rattle.std.specs.Int.{IsInRange}
+use Rattle.tz_types.specs.Civil.{is_from_to}
+use Rattle.tz_script.specs.Contents.{Contents}
+use Rattle.tz_script.specs.Inside.{lane_count}
+use Rattle.tz_script.specs.Line.{is_late}
+use Rattle.tz_script.specs.declared.gathered.Gathered.{Gathered}
+use Rattle.tz_script.specs.declared.said.Said.{Said}
+use Rattle.tz_script.specs.declared.said.Said.TheVariants as said
+
+abbrev pub contents_gathered : Gathered → Contents
+contents_gathered gathered =
+    record {
+      lanes = gathered.lanes;
+      rounds = gathered.rounds;
+      operations = gathered.operations;
+      changes = gathered.changes;
+      holds = gathered.holds.items;
+      left = gathered.left;
+    }
+
+-- it is said how many lanes there are, from 1 to 16
+abbrev pub AreLanes : Said → Type 0
+AreLanes (said.Lanes lanes) = IsInRange 1 16 lanes
+AreLanes _ = ⊥
+
+-- What is said may stand behind the contents: no line has said yet how many lanes there are, the round isn't one too many, or the
+-- operation has its lane and a round, and isn't one too many.
+abbrev pub MayFollow : Contents → Said → Type 0
+MayFollow contents (said.Lanes lanes) = (contents.lanes ≡ None) × IsInRange 1 16 lanes
+MayFollow contents said.Round = contents.rounds < 1_024
+MayFollow contents (said.Operation lane op) =
+    (1 ≤ contents.rounds) × IsInRange 1 (lane_count contents.lanes) lane × IsTrue (not (is_late contents op))
+
+-- a blank line may stand anywhere
+abbrev pub MayBeNext : Contents → Option Said → Type 0
+MayBeNext contents None = Unit {0}
+MayBeNext contents (Some said) = MayFollow contents said

@@ -1,0 +1,17 @@
+pub mod Cause
+pub mod HoldName
+pub mod Words
+pub mod FirstWord
+pub mod Keyword
+pub mod Operand
+pub mod Operation
+pub mod OpWords
+pub mod Holds
+pub mod Contents
+pub mod Line
+pub mod Inside
+pub mod Gathered
+pub mod Script
+pub mod Tells
+pub mod Messages
+pub mod Laws

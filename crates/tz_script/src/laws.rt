@@ -1,0 +1,26 @@
+//! What a text says is settled by the text: laws of specs/Script.antt.
+ghost use Rattle.std.specs.Prelude.{◌≡◌, ℕ, ◌⊎◌, List};
+ghost use Rattle.tz_types.specs.declared.fault.LineFault.{LineFault};
+ghost use Rattle.tz_script.specs.Script.{ReadsScript, RefusesScript};
+ghost use Rattle.tz_script.specs.Laws.{HasSameParts, IsReadable};
+ghost use Rattle.tz_script.specs.declared.script.Script.{Script as DeclaredScript};
+
+/// A text is read as at most one script.
+pub fn at_most_one_script()
+    ensures { (sources : ℕ) (text : List ℕ) (a b : DeclaredScript) → ReadsScript sources text a → ReadsScript sources text b → HasSameParts a b }
+{}
+
+/// A text is refused with at most one fault.
+pub fn at_most_one_script_fault()
+    ensures { (sources : ℕ) (text : List ℕ) (a b : LineFault) → RefusesScript sources text a → RefusesScript sources text b → a ≡ b }
+{}
+
+/// A text that is read isn't refused.
+pub fn read_scripts_are_not_refused()
+    ensures { (sources : ℕ) (text : List ℕ) (script : DeclaredScript) (fault : LineFault) → ReadsScript sources text script → ¬ (RefusesScript sources text fault) }
+{}
+
+/// Each text gives contents, whose parts a script has, or is refused.
+pub fn each_script_is_read_or_refused()
+    ensures { (sources : ℕ) (text : List ℕ) → IsReadable sources text ⊎ ((fault : LineFault) × RefusesScript sources text fault) }
+{}

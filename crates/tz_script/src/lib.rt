@@ -1,0 +1,49 @@
+//! Scripts of lookups, holds, reloads and erasures, by their text.
+//!
+//! `read_script` reads a text whole, or refuses it with one line and its cause:
+//!
+//! ```text
+//! lanes 2
+//! round
+//! 1 hold old
+//! 2 reload 1      # a comment
+//! 1 info old Europe/Zurich 0
+//! 1 drop old
+//! ```
+//!
+//! A line is cut into words; the words are read as an operation; and what stands before a line decides whether the operation
+//! may stand there. What a text says is defined in specs/Script.antt. The layer above runs the rounds one after another, and
+//! the lanes of a round each in the order of its operations.
+#![tactic(auto)]
+
+mod adding;
+mod cause;
+mod error;
+mod gathered;
+mod hold_name;
+mod holds;
+mod keyword;
+mod laws;
+mod line;
+mod lines;
+mod op_reader;
+mod operand;
+mod operation;
+mod reader;
+mod said;
+mod script;
+mod words;
+
+pub use cause::ScriptCause;
+pub use error::ScriptError;
+pub use hold_name::HoldName;
+pub use laws::{
+    at_most_one_script, at_most_one_script_fault, each_script_is_read_or_refused,
+    read_scripts_are_not_refused,
+};
+pub use operation::{Op, Operation, Pick};
+pub use reader::read_script;
+pub use script::Script;
+
+#[cfg(test)]
+mod tests;

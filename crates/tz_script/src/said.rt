@@ -1,0 +1,13 @@
+//! What a line of a script says.
+use crate::operation::Op;
+
+/// What a line says that isn't blank.
+#[derive(Debug, Drop)]
+pub enum Said {
+    /// How many lanes there are.
+    Lanes(u32),
+    /// A round begins.
+    Round,
+    /// A lane does an operation.
+    Operation { lane: u32, op: Op },
+}

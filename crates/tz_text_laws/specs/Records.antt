@@ -1,0 +1,57 @@
+-- The records of a source, in the order of their lines.
+use Rattle.std.specs.Prelude.{ℕ, ◌+◌, List, [], ◌∷◌, ◌++◌, length, find, filter_map, Option, Some, None, Result, Ok, Err}
+use Rattle.tz_types.specs.declared.cause.Cause.{Cause}
+use Rattle.tz_types.specs.declared.fault.LineFault.{LineFault}
+use Rattle.tz_specs.specs.Choice.{only_if}
+use Rattle.tz_specs.specs.Line.{lines_of}
+use Rattle.tz_specs.specs.Value.{is_exactly}
+use Rattle.tz_specs.specs.Written.{WrittenRule, WrittenSet, WrittenLink, Record, RuleRecord, ZoneRecord, Continuation, LinkRecord}
+use Rattle.tz_specs.specs.Contents.{Contents, no_contents, at_end_of_file, is_set_named, with_said, line_says, contents_after}
+
+-- the records that lines say, by what stands before them
+unfoldable pub records_after : Contents → ℕ → List (List ℕ) → List Record
+records_after contents number [] = []
+records_after contents number (line ∷ lines) =
+    elim (line_says contents number line) [
+      | Ok said ↦ onto said (records_after (with_said said contents) (number + 1) lines)
+      | Err cause ↦ []
+    ]
+  where
+    onto : Option Record → List Record → List Record
+    onto None records = records
+    onto (Some said) records = said ∷ records
+
+-- those of files, one after another
+unfoldable pub records_over : Contents → ℕ → List (List ℕ) → List Record
+records_over contents number [] = []
+records_over contents number (file ∷ files) =
+    elim (contents_after contents number (lines_of file)) [
+      | Ok after ↦ records_after contents number (lines_of file) ++ records_over (at_end_of_file after) (number + length (lines_of file)) files
+      | Err fault ↦ []
+    ]
+
+-- all records of the files of a source
+abbrev pub records_of : List (List ℕ) → List Record
+records_of files = records_over no_contents 1 files
+
+-- the rule of a Rule record of that name
+abbrev pub rule_named : List ℕ → Record → Option WrittenRule
+rule_named name (RuleRecord other rule) = only_if (is_exactly other name) rule
+rule_named name (ZoneRecord other line) = None
+rule_named name (Continuation line) = None
+rule_named name (LinkRecord link) = None
+
+-- the rules of the set of that name; where there is no such set, there are none
+abbrev pub rules_in : List ℕ → List WrittenSet → List WrittenRule
+rules_in name sets = rules_or_none (find (is_set_named name) sets)
+  where
+    rules_or_none : Option WrittenSet → List WrittenRule
+    rules_or_none None = []
+    rules_or_none (Some set) = set.rules
+
+-- the link of a Link record
+abbrev pub link_said : Record → Option WrittenLink
+link_said (RuleRecord name rule) = None
+link_said (ZoneRecord name line) = None
+link_said (Continuation line) = None
+link_said (LinkRecord link) = Some link

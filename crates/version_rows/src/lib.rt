@@ -1,0 +1,5 @@
+//! Versions of real releases: tests.
+#![tactic(auto)]
+
+#[cfg(test)]
+mod tests;
