@@ -16,3 +16,6 @@ mod version;
 pub use error::{MakeError, NoZone};
 pub use sources::{MOST_SOURCES, Sources};
 pub use version::Version;
+
+#[cfg(test)]
+mod tests;

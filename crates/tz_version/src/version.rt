@@ -50,14 +50,9 @@ impl Version {
         ensures refused { IfErr result (λ e. MeansMakeError e sources.now src) }
     {
         let home = sources.get();
-        let leaps = match leap_table(alloc, home.leaps.as_slice()) {
-            Ok(leaps) => leaps,
-            Err(error) => return Err(error),
-        };
-        let db = match database(alloc, &home.texts.as_slice()[src as usize]) {
-            Ok(db) => db,
-            Err(error) => return Err(error),
-        };
+        let source = &home.texts.as_slice()[src as usize];
+        let leaps = leap_table(alloc, home.leaps.as_slice())?;
+        let db = database(alloc, source)?;
         let zones = compiled_zones(alloc, &db)?;
         let cells = empty_cells(alloc, zones.len())?;
         let Db {
