@@ -68,8 +68,8 @@ fn has_marks(word: &[u8]) -> bool
         && word[16] == b':'
 }
 
-/// The local second that the word names, from 1970-01-01 00:00:00 of the same clock. None comes exactly where it has
-/// another form, where the calendar hasn't its date, or where a clock doesn't show its time.
+/// The local second that the word names, from 1970-01-01 00:00:00 of the same clock. None comes exactly where it has another
+/// form, where the calendar hasn't its date, or where a clock doesn't show its time.
 #[tactic(auto, unfolding(tz_specs::specs::CivilWord::civil_word))]
 pub fn civil_word(word: &[u8]) -> Option<i64>
     ensures { result ≡ civil_word word.now }
