@@ -1,4 +1,4 @@
-//! Tests that cross crates: worked rows of commands, over files and a sink in memory, and real texts.
+//! Tests that cross crates: worked rows of commands, over files and a sink in memory.
 #![tactic(auto)]
 
 #[cfg(test)]
@@ -9,8 +9,6 @@ mod links;
 mod locals;
 #[cfg(test)]
 mod outside;
-#[cfg(test)]
-mod real_texts;
 #[cfg(test)]
 mod rows;
 #[cfg(test)]

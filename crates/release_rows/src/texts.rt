@@ -1,5 +1,5 @@
 //! Texts that the machine may have. Where it has none, nothing is tested.
-use crate::outside::{one_file, run};
+use crate::outside::{RELEASE, answer_over};
 use std::alloc::{AllocError, Global};
 use std::fs;
 use std::process::Abort;
@@ -7,9 +7,6 @@ use std::test::Fail;
 use tz_cli::{Plain, Status};
 use tz_lines::read_leaps;
 use tz_text::{Fields, Joined, amount, named, on, signed_number, year};
-
-/// A text in the compact spelling.
-const ZONES: &str = "/usr/share/zoneinfo/tzdata.zi";
 
 /// The leap seconds.
 const LEAPS: &str = "/usr/share/zoneinfo/leapseconds";
@@ -33,10 +30,10 @@ fn has_values(rt: &impl Abort, fields: &Fields<'_>, line: &str) {
 
 #[test]
 fn a_real_text_has_values(rt: HostRuntime) -> Result<(), Fail> {
-    if !fs::exists(&rt, ZONES)? {
+    if !fs::exists(&rt, RELEASE)? {
         return Ok(());
     }
-    let text = fs::read_to_string(&rt, ZONES)?;
+    let text = fs::read_to_string(&rt, RELEASE)?;
     let mut joined = Joined::new();
     let mut rules = 0u32;
     for line in text.lines() {
@@ -51,7 +48,7 @@ fn a_real_text_has_values(rt: HostRuntime) -> Result<(), Fail> {
             Err(_) => assert!(rt; false, "{line}"),
         }
     }
-    assert!(rt; rules > 0, "no rule in {ZONES}");
+    assert!(rt; rules > 0, "no rule in {RELEASE}");
     Ok(())
 }
 
@@ -62,10 +59,10 @@ fn lines_with(text: &str, start: &str) -> usize {
 
 #[test]
 fn a_real_text_is_counted(rt: HostRuntime) -> Result<(), Fail> {
-    if !fs::exists(&rt, ZONES)? {
+    if !fs::exists(&rt, RELEASE)? {
         return Ok(());
     }
-    let text = fs::read_to_string(&rt, ZONES)?;
+    let text = fs::read_to_string(&rt, RELEASE)?;
     let first = text.lines().next().ok_or("a first line")?;
     let version = first.strip_prefix("# version ").ok_or("a version")?;
     let rules = lines_with(text.as_str(), "R ");
@@ -73,8 +70,13 @@ fn a_real_text_is_counted(rt: HostRuntime) -> Result<(), Fail> {
     let links = lines_with(text.as_str(), "L ");
     let alloc = rt.alloc();
     let printed = format!(in alloc; "ok {version} rules {rules} zones {zones} links {links}\n")?;
-    let mut files = one_file(alloc, text.as_bytes().to_vec(alloc)?)?;
-    let (answer, taken) = run(&rt, alloc, &mut files, "check T", 64, 4_096)?;
+    let (answer, taken) = answer_over(
+        &rt,
+        alloc,
+        text.as_bytes().to_vec(alloc)?,
+        "check T",
+        4_096,
+    )?;
     assert_eq!(rt; taken.as_slice(), printed.as_bytes());
     assert_eq!(rt; answer, Plain::Done(Status::Ok));
     Ok(())

@@ -1,13 +1,11 @@
-//! A release that the machine may have. Where it has none, nothing is tested.
+//! A release as a version, with all its names.
+use crate::outside::RELEASE;
 use std::alloc::Global;
 use std::fs;
 use std::sync::Arc;
 use std::test::Fail;
 use tz_types::{Items, MOST_BYTES, NoMemory, Shared, Source};
 use tz_version::{Sources, Version};
-
-/// A text in the compact spelling.
-const ZONES: &str = "/usr/share/zoneinfo/tzdata.zi";
 
 /// How many names are looked for that no release has.
 const ABSENT: u32 = 10_000;
@@ -45,12 +43,12 @@ fn name_given(line: &str) -> Option<&str> {
 
 #[test]
 fn a_real_release_has_its_names(rt: HostRuntime) -> Result<(), Fail> {
-    if !fs::exists(&rt, ZONES)? {
+    if !fs::exists(&rt, RELEASE)? {
         return Ok(());
     }
-    let text = fs::read_to_string(&rt, ZONES)?;
+    let text = fs::read_to_string(&rt, RELEASE)?;
     let Some(version) = version_of(rt.alloc(), text.as_bytes())? else {
-        assert!(rt; false, "{ZONES} is refused");
+        assert!(rt; false, "{RELEASE} is refused");
         return Ok(());
     };
     let version = version.get();
@@ -61,7 +59,7 @@ fn a_real_release_has_its_names(rt: HostRuntime) -> Result<(), Fail> {
             names = names.saturating_add(1);
         }
     }
-    assert!(rt; names > 0, "no name in {ZONES}");
+    assert!(rt; names > 0, "no name in {RELEASE}");
     for number in 0..ABSENT {
         let name = format!(in rt.alloc(); "Nowhere/{number}")?;
         assert!(rt; version.zone(name.as_bytes()).is_err(), "{name}");

@@ -1,5 +1,0 @@
-//! Versions of real releases: tests.
-#![tactic(auto)]
-
-#[cfg(test)]
-mod tests;
