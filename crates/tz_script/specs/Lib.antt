@@ -15,3 +15,4 @@ pub mod Script
 pub mod Tells
 pub mod Messages
 pub mod Laws
+pub mod Keeping
