@@ -39,7 +39,7 @@ pub use error::ScriptError;
 pub use hold_name::HoldName;
 pub use laws::{
     at_most_one_script, at_most_one_script_fault, each_script_is_read_or_refused,
-    read_scripts_are_not_refused,
+    read_scripts_are_not_refused, read_scripts_keep_holds,
 };
 pub use operation::{Op, Operation, Pick};
 pub use reader::read_script;

@@ -5,6 +5,7 @@ ghost use Rattle.tz_script.specs.Cause.{fault_at};
 ghost use Rattle.tz_script.specs.Contents.{no_contents};
 ghost use Rattle.tz_script.specs.Gathered.{contents_gathered};
 ghost use Rattle.tz_script.specs.Inside.{are_before};
+ghost use Rattle.tz_script.specs.Keeping.{KeepsHolds};
 ghost use Rattle.tz_script.specs.Script.{contents_after, are_blank, blank_fault, contents_of, ReadsScript};
 ghost use Rattle.tz_script.specs.Tells.{MeansFault, MeansWholeFault, IsScriptOf, MeansRefusal};
 
@@ -133,6 +134,19 @@ fn script_of(gathered: Gathered) -> Result<Script, ScriptError>
     })
 }
 
+/// The script of a text, or its fault.
+fn read_whole(alloc: Global, text: &[u8], sources: u32) -> Result<Script, ScriptError>
+    requires { length text.now ≤ 4_194_304 }
+    ensures ok { IfOk result (λ script. ReadsScript sources text.now script) }
+    ensures refused { IfErr result (λ e. MeansRefusal e sources text.now) }
+{
+    let gathered = match gather(alloc, text, sources) {
+        Ok(gathered) => gathered,
+        Err(error) => return Err(error),
+    };
+    script_of(gathered)
+}
+
 /// The script of a text of at most 4,194,304 bytes, where there are so many texts to reload.
 ///
 /// Words are separated by spaces, tabs and carriage returns, `#` begins a comment, and blank lines say nothing. The first line
@@ -151,11 +165,11 @@ fn script_of(gathered: Gathered) -> Result<Script, ScriptError>
 pub fn read_script(alloc: Global, text: &[u8], sources: u32) -> Result<Script, ScriptError>
     requires { length text.now ≤ 4_194_304 }
     ensures ok { IfOk result (λ script. ReadsScript sources text.now script) }
+    ensures holds { IfOk result (λ script. KeepsHolds script.operations) }
     ensures refused { IfErr result (λ e. MeansRefusal e sources text.now) }
 {
-    let gathered = match gather(alloc, text, sources) {
-        Ok(gathered) => gathered,
-        Err(error) => return Err(error),
-    };
-    script_of(gathered)
+    match read_whole(alloc, text, sources) {
+        Ok(script) => Ok(script),
+        Err(error) => Err(error),
+    }
 }
