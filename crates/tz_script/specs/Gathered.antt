@@ -4,6 +4,7 @@ use Rattle.std.specs.Int.{IsInRange}
 use Rattle.tz_types.specs.Civil.{is_from_to}
 use Rattle.tz_script.specs.Contents.{Contents}
 use Rattle.tz_script.specs.Inside.{lane_count}
+use Rattle.tz_script.specs.Limit.{most_lanes, most_rounds}
 use Rattle.tz_script.specs.Line.{is_late}
 use Rattle.tz_script.specs.declared.gathered.Gathered.{Gathered}
 use Rattle.tz_script.specs.declared.said.Said.{Said}
@@ -20,16 +21,16 @@ contents_gathered gathered =
       left = gathered.left;
     }
 
--- it is said how many lanes there are, from 1 to 16
+-- it is said how many lanes there are, at least 1 and not too many
 abbrev pub AreLanes : Said → Type 0
-AreLanes (said.Lanes lanes) = IsInRange 1 16 lanes
+AreLanes (said.Lanes lanes) = IsInRange 1 most_lanes lanes
 AreLanes _ = ⊥
 
 -- What is said may stand behind the contents: no line has said yet how many lanes there are, the round isn't one too many, or the
 -- operation has its lane and a round, and isn't one too many.
 abbrev pub MayFollow : Contents → Said → Type 0
-MayFollow contents (said.Lanes lanes) = (contents.lanes ≡ None) × IsInRange 1 16 lanes
-MayFollow contents said.Round = contents.rounds < 1_024
+MayFollow contents (said.Lanes lanes) = (contents.lanes ≡ None) × IsInRange 1 most_lanes lanes
+MayFollow contents said.Round = contents.rounds < most_rounds
 MayFollow contents (said.Operation lane op) =
     (1 ≤ contents.rounds) × IsInRange 1 (lane_count contents.lanes) lane × IsTrue (not (is_late contents op))
 

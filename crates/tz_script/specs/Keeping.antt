@@ -2,6 +2,7 @@
 use Rattle.std.specs.Prelude.{◌≡◌, ℕ, ◌==◌, nat_lt, Bool, true, not, ◌&&◌, if◌then◌else◌, List, [], ◌∷◌, ◌++◌, length, map, Option, Some, None}
 use Rattle.std.specs.List.{filter, list_any}
 use Rattle.tz_specs.specs.Value.{is_exactly}
+use Rattle.tz_script.specs.Limit.{most_holds}
 use Rattle.tz_script.specs.Operation.{hold_begun, hold_needed}
 use Rattle.tz_script.specs.declared.operation.Op.{Op}
 use Rattle.tz_script.specs.declared.operation.Op.TheVariants as ops
@@ -22,7 +23,7 @@ is_named name names = list_any (λ other. is_exactly other name) names
 -- a hold that begins has another name than those that are open, and these are at most six
 abbrev pub may_begin : List (List ℕ) → Option (List ℕ) → Bool
 may_begin names None = true
-may_begin names (Some name) = not (is_named name names) && nat_lt (length names) 7
+may_begin names (Some name) = not (is_named name names) && nat_lt (length names) most_holds
 
 -- the hold that has to be open is
 abbrev pub has_needed : List (List ℕ) → Option (List ℕ) → Bool

@@ -1,3 +1,4 @@
+pub mod Limit
 pub mod Cause
 pub mod HoldName
 pub mod Words

@@ -7,6 +7,7 @@ use Rattle.tz_script.specs.Cause.{least_cause}
 use Rattle.tz_script.specs.Contents.{Contents}
 use Rattle.tz_script.specs.FirstWord.{first, ends}
 use Rattle.tz_script.specs.Holds.{is_open, is_full}
+use Rattle.tz_script.specs.Limit.{most_rounds, most_operations, most_changes}
 use Rattle.tz_script.specs.Operand.{counted_of, lanes_word_of, lane_count_of}
 use Rattle.tz_script.specs.Operation.{hold_begun, hold_needed, source_asked, is_change}
 use Rattle.tz_script.specs.OpWords.{keyword_first, op_said}
@@ -34,7 +35,7 @@ has_word (word ∷ words) = true
 
 abbrev pub round_causes : Contents → List (List ℕ) → List (ScriptCause × Bool)
 round_causes contents words =
-    (causes.Operand, has_word words) ∷ (causes.Limit, nat_le 1_024 contents.rounds) ∷ []
+    (causes.Operand, has_word words) ∷ (causes.Limit, nat_le most_rounds contents.rounds) ∷ []
 
 -- An operation, by the number of lanes, the word of its lane and the words behind it.
 
@@ -65,7 +66,7 @@ is_missing sources (Some src) = nat_le sources src
 
 -- it is the 65,537th operation, or the 4,097th reload or erasure
 abbrev pub is_late : Contents → Op → Bool
-is_late contents op = nat_le 65_536 (length contents.operations) || (is_change op && nat_le 4_096 contents.changes)
+is_late contents op = nat_le most_operations (length contents.operations) || (is_change op && nat_le most_changes contents.changes)
 
 -- the causes of an operation of a lane
 abbrev pub standing_causes : ℕ → Contents → ℕ → Op → List (ScriptCause × Bool)

@@ -12,6 +12,7 @@ use Rattle.tz_output.specs.Conversion.{conversion_word}
 use Rattle.tz_output.specs.declared.conversion.Conversion.{Conversion}
 use Rattle.tz_output.specs.declared.conversion.Conversion.TheVariants as conversions
 use Rattle.tz_script.specs.HoldName.{is_front, is_hold_name}
+use Rattle.tz_script.specs.Limit.{most_lanes}
 use Rattle.tz_script.specs.declared.operation.Pick.{Pick}
 use Rattle.tz_script.specs.declared.operation.Pick.TheVariants.{Front, Held}
 
@@ -64,4 +65,4 @@ begins_with_zero (byte ∷ bytes) = byte == 0x30
 
 -- how many lanes there are: 1 to 16, without leading zeros
 abbrev pub lane_count_of : List ℕ → Option ℕ
-lane_count_of word = only_if (not (begins_with_zero word)) word >>= counted_of 1 16
+lane_count_of word = only_if (not (begins_with_zero word)) word >>= counted_of 1 most_lanes

@@ -1,6 +1,7 @@
 //! What the lines of a script have given so far.
 ghost use Rattle.std.specs.Prelude.{◌≡◌, ◌≤◌};
 ghost use Rattle.tz_script.specs.Inside.{change_count, IsSound};
+ghost use Rattle.tz_script.specs.Limit.{most_rounds, most_changes};
 
 use crate::holds::OpenHold;
 use crate::operation::Operation;
@@ -17,8 +18,8 @@ pub struct Gathered {
     pub changes: u32,
     pub holds: Vec<OpenHold>,
     pub left: Option<u32>,
-    pub ghost few_rounds: { rounds ≤ 1_024 },
-    pub ghost few_changes: { changes ≤ 4_096 },
+    pub ghost few_rounds: { rounds ≤ most_rounds },
+    pub ghost few_changes: { changes ≤ most_changes },
     pub ghost counted: { changes ≡ change_count operations },
     pub ghost sound: { IsSound lanes rounds operations },
 }

@@ -3,12 +3,10 @@ ghost use Rattle.std.specs.Prelude.{◌≡◌, ◌==◌, ◌∷◌, ◌++◌, []
 ghost use Rattle.tz_script.specs.Holds.{is_hold, is_open, is_full, without, first_line, holds_after};
 
 use crate::hold_name::HoldName;
+use crate::limit::MOST_HOLDS;
 use crate::operation::Op;
 use crate::words::is_exactly;
 use tz_types::NoMemory;
-
-/// How many holds a lane may have open at once.
-const MOST_HOLDS: usize = 7;
 
 /// A hold that is open: its lane, its name, and the line where it began.
 #[derive(Debug, PartialEq, Drop)]

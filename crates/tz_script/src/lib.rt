@@ -24,6 +24,7 @@ mod hold_name;
 mod holds;
 mod keyword;
 mod laws;
+mod limit;
 mod line;
 mod lines;
 mod op_reader;
@@ -41,6 +42,7 @@ pub use laws::{
     at_most_one_script, at_most_one_script_fault, each_script_is_read_or_refused,
     read_scripts_are_not_refused, read_scripts_keep_holds,
 };
+pub use limit::{LONGEST_LINE, MOST_CHANGES, MOST_HOLDS, MOST_LANES, MOST_OPERATIONS, MOST_ROUNDS};
 pub use operation::{Op, Operation, Pick};
 pub use reader::read_script;
 pub use script::Script;

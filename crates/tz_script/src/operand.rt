@@ -2,11 +2,13 @@
 ghost use Rattle.std.specs.Prelude.{◌≡◌, IfSome, option_map};
 ghost use Rattle.std.specs.Int.{IsInRange};
 ghost use Rattle.tz_text.specs.LocalTime.{local_time_of};
+ghost use Rattle.tz_script.specs.Limit.{most_lanes};
 ghost use Rattle.tz_script.specs.Words.{words_of};
 ghost use Rattle.tz_script.specs.Operand.{hold_name_of, pick_of, zone_name_of, signed_of, counted_of, choice_of, conversion_of, lane_count_of};
 ghost use Rattle.tz_script.specs.FirstWord.{first};
 
 use crate::hold_name::{HoldName, is_front};
+use crate::limit::MOST_LANES;
 use crate::operation::Pick;
 use crate::words::{is_exactly, next_word};
 use tz_output::Conversion;
@@ -86,11 +88,11 @@ fn conversion_of(word: &[u8]) -> Option<Conversion>
 /// How many lanes there are: 1 to 16, without leading zeros.
 pub fn lane_count_of(word: &[u8]) -> Option<u32>
     ensures value { result ≡ lane_count_of word.now }
-    ensures bound { IfSome result (IsInRange 1 16) }
+    ensures bound { IfSome result (IsInRange 1 most_lanes) }
 {
     match word {
         [b'0', ..] => None,
-        _ => counted_of(word, 1, 16),
+        _ => counted_of(word, 1, MOST_LANES),
     }
 }
 

@@ -1,6 +1,7 @@
 //! Scripts: rounds of operations in lanes.
 ghost use Rattle.std.specs.Prelude.{◌≤◌, Some};
 ghost use Rattle.tz_script.specs.Inside.{change_count, IsSound};
+ghost use Rattle.tz_script.specs.Limit.{most_rounds, most_changes};
 
 use crate::operation::Operation;
 use tz_types::Items;
@@ -12,7 +13,7 @@ pub struct Script {
     pub lanes: u32,
     pub rounds: u32,
     pub operations: Items<Operation>,
-    pub ghost few_rounds: { rounds ≤ 1_024 },
-    pub ghost few_changes: { change_count operations ≤ 4_096 },
+    pub ghost few_rounds: { rounds ≤ most_rounds },
+    pub ghost few_changes: { change_count operations ≤ most_changes },
     pub ghost sound: { IsSound (Some lanes) rounds operations },
 }
