@@ -2,7 +2,9 @@
 use Rattle.std.proofs.Common.{◌≡◌, ℕ, suc, ◌+◌, ◌<◌, ◌≤◌, ◌==◌, nat_le, nat_lt, Bool, true, false, not, ◌&&◌, ◌||◌, if◌then◌else◌, ◌⊎◌, inl, inr, List, [], ◌∷◌, ◌++◌, length, Option, Some, None, Result, Ok, Err, IsTrue, refl, sym, ap, subst, ◌∙◌, ⊎_elim, option_map, arith}
 use Rattle.std.specs.Option.{is_none}
 use Rattle.std.proofs.lemmas.Bool.{cases_Bool, cases_lt}
+use Rattle.std.specs.List.{list_all}
 use Rattle.std.proofs.lemmas.Bool.Decides.{nat_tests}
+use Rattle.std.proofs.lemmas.List.Folds.{list_all-append}
 use Rattle.tz_types.specs.declared.fault.LineFault.{LineFault}
 use Rattle.tz_specs.specs.Choice.{◌>>=◌}
 use Rattle.tz_specs.specs.Day.{or_else}
@@ -10,7 +12,7 @@ use Rattle.tz_specs.specs.Line.{lines_of}
 use Rattle.tz_script.specs.Cause.{least_cause, fault_at}
 use Rattle.tz_script.specs.Contents.{Contents, no_contents, first_left, with_said}
 use Rattle.tz_script.specs.Holds.{is_open, is_full, first_line, holds_after}
-use Rattle.tz_script.specs.Keeping.{is_in, ops_in, is_named, may_begin, has_needed, may_stand, names_after, names_open, KeepsHolds}
+use Rattle.tz_script.specs.Keeping.{is_in, ops_in, is_named, may_begin, has_needed, may_stand, names_after, names_open, KeepsHolds, is_there, KeepsSources}
 use Rattle.tz_script.specs.Line.{lanes_said, round_causes, op_causes, lane_causes, operation_causes, operation_said, lane_of, is_round, word_causes, words_say, line_causes, unless_cause, line_says, is_held_twice, is_unknown, is_crowded, is_missing, is_late, standing_causes}
 use Rattle.tz_script.specs.OpWords.{op_said}
 use Rattle.tz_script.specs.Operation.{hold_begun, hold_needed, source_asked}
@@ -27,10 +29,10 @@ use Rattle.tz_script.specs.declared.script.Script.{Script}
 use Rattle.tz_script.proofs.Reading.{after_none, after_said, after_cause}
 use Rattle.tz_script.proofs.HoldRules.{names_in, open_is_named, count_in, names_of_lane, names_of_others, pushed_in, pushed_elsewhere, open_pushed}
 
--- The operation that is said may stand where these holds are open.
-abbrev MayStand : Contents → Option Said → Type 0
-MayStand contents (Some (said.Operation lane op)) = may_stand (names_in lane contents.holds) op ≡ true
-MayStand contents _ = Unit {0}
+-- The operation that is said has no cause by what stands before it.
+abbrev MayStand : ℕ → Contents → Option Said → Type 0
+MayStand sources contents (Some (said.Operation lane op)) = least_cause (standing_causes sources contents lane op) ≡ None
+MayStand sources contents _ = Unit {0}
 
 three_of_five : (a b c d e : Bool) → least_cause ((causes.HoldTwice, a) ∷ (causes.HoldUnknown, b) ∷ (causes.TooManyHolds, c) ∷ (causes.SourceIndex, d) ∷ (causes.Limit, e) ∷ []) ≡ None → (a ≡ false) × (b ≡ false) × (c ≡ false)
 three_of_five false false false d e h = (refl, refl, refl)
@@ -70,25 +72,25 @@ stands_well sources contents lane op none =
     let facts = three_of_five (is_held_twice lane contents.holds (hold_begun op)) (is_unknown lane contents.holds (hold_needed op)) (is_crowded lane contents.holds (hold_begun op)) (is_missing sources (source_asked op)) (is_late contents op) none in
     rw (begins_well lane contents.holds (hold_begun op) facts.0 facts.2) (needs_well lane contents.holds (hold_needed op) facts.1)
 
-by_parts : (sources : ℕ) (contents : Contents) (a b : Bool) (lane_word : Option ℕ) (op_words : Option Op) (lane : ℕ) (op : Op) → least_cause ((causes.Op, a) ∷ (causes.Operand, b) ∷ lane_causes sources contents lane_word op_words) ≡ None → (lane_word >>= λ it. op_words >>= λ does. Some (said.Operation it does)) ≡ Some (said.Operation lane op) → may_stand (names_in lane contents.holds) op ≡ true
+by_parts : (sources : ℕ) (contents : Contents) (a b : Bool) (lane_word : Option ℕ) (op_words : Option Op) (lane : ℕ) (op : Op) → least_cause ((causes.Op, a) ∷ (causes.Operand, b) ∷ lane_causes sources contents lane_word op_words) ≡ None → (lane_word >>= λ it. op_words >>= λ does. Some (said.Operation it does)) ≡ Some (said.Operation lane op) → least_cause (standing_causes sources contents lane op) ≡ None
 by_parts sources contents a b None op_words lane op none e = cc
 by_parts sources contents a b (Some it) None lane op none e = cc
 by_parts sources contents a b (Some it) (Some does) lane op none e =
     let same_lane : it ≡ lane = cc in
     let same_op : does ≡ op = cc in
-    let stands = stands_well sources contents it does (behind_two a b (standing_causes sources contents it does) none) in
+    let stands = behind_two a b (standing_causes sources contents it does) none in
     rw (same_lane, same_op) at stands
 
 not_lanes : (lanes : Option ℕ) (lane : ℕ) (op : Op) → option_map said.Lanes lanes ≡ Some (said.Operation lane op) → ⊥
 not_lanes None lane op e = cc
 not_lanes (Some lanes) lane op e = cc
 
-by_round : (sources : ℕ) (contents : Contents) (lanes : ℕ) (word : List ℕ) (words : List (List ℕ)) (round : Bool) (lane : ℕ) (op : Op) → least_cause (if round then round_causes contents words else operation_causes sources contents lanes word words) ≡ None → (if round then Some said.Round else operation_said lanes word words) ≡ Some (said.Operation lane op) → may_stand (names_in lane contents.holds) op ≡ true
+by_round : (sources : ℕ) (contents : Contents) (lanes : ℕ) (word : List ℕ) (words : List (List ℕ)) (round : Bool) (lane : ℕ) (op : Op) → least_cause (if round then round_causes contents words else operation_causes sources contents lanes word words) ≡ None → (if round then Some said.Round else operation_said lanes word words) ≡ Some (said.Operation lane op) → least_cause (standing_causes sources contents lane op) ≡ None
 by_round sources contents lanes word words true lane op none e = cc
 by_round sources contents lanes word words false lane op none e =
     by_parts sources contents _ _ (lane_of lanes word) (op_said words) lane op none e
 
-by_words : (sources : ℕ) (contents : Contents) (lanes : Option ℕ) (words : List (List ℕ)) (it : Option Said) → least_cause (word_causes sources contents lanes words) ≡ None → words_say lanes words ≡ it → MayStand contents it
+by_words : (sources : ℕ) (contents : Contents) (lanes : Option ℕ) (words : List (List ℕ)) (it : Option Said) → least_cause (word_causes sources contents lanes words) ≡ None → words_say lanes words ≡ it → MayStand sources contents it
 by_words sources contents lanes words None none e = tt
 by_words sources contents lanes words (Some (said.Lanes count)) none e = tt
 by_words sources contents lanes words (Some said.Round) none e = tt
@@ -108,7 +110,7 @@ behind_one false rows h = h
 behind_one true rows h = cc
 
 -- what a line says may stand where it does
-said_stands : (sources : ℕ) (contents : Contents) (line : List ℕ) (it : Option Said) → line_says sources contents line ≡ Ok it → MayStand contents it
+said_stands : (sources : ℕ) (contents : Contents) (line : List ℕ) (it : Option Said) → line_says sources contents line ≡ Ok it → MayStand sources contents it
 unfolding line_says
 said_stands sources contents line it e =
     let parts = ok_parts (least_cause (line_causes sources contents line)) (words_say contents.lanes (line_words line)) it e in
@@ -209,25 +211,26 @@ operation_done number rounds lane op operations holds left may kept =
         (cases_Bool (lane == other))
 
 -- one more line
-still_held : (number : ℕ) (contents : Contents) (it : Option Said) → MayStand contents it → AreHeld contents → AreHeld (with_said number it contents)
-still_held number contents None may held = held
-still_held number contents (Some (said.Lanes lanes)) may held = held
-still_held number contents (Some said.Round) may held =
+still_held : (sources number : ℕ) (contents : Contents) (it : Option Said) → MayStand sources contents it → AreHeld contents → AreHeld (with_said number it contents)
+still_held sources number contents None may held = held
+still_held sources number contents (Some (said.Lanes lanes)) may held = held
+still_held sources number contents (Some said.Round) may held =
     round_begun contents.rounds contents.operations contents.holds contents.left held
-still_held number contents (Some (said.Operation lane op)) may held =
-    operation_done number contents.rounds lane op contents.operations contents.holds contents.left may held
+still_held sources number contents (Some (said.Operation lane op)) may held =
+    operation_done number contents.rounds lane op contents.operations contents.holds contents.left (stands_well sources contents lane op may) held
 
-held_after : (sources : ℕ) (lines : List (List ℕ)) (contents : Contents) (number : ℕ) (after : Contents) → AreHeld contents → contents_after sources contents number lines ≡ Ok after → AreHeld after
-held_after sources [] contents number after held e =
+-- what each line keeps, all lines keep
+kept_after : (P : Contents → Type 0) (sources : ℕ) (step : (number : ℕ) (contents : Contents) (it : Option Said) → MayStand sources contents it → P contents → P (with_said number it contents)) (lines : List (List ℕ)) (contents : Contents) (number : ℕ) (after : Contents) → P contents → contents_after sources contents number lines ≡ Ok after → P after
+kept_after P sources step [] contents number after kept e =
     let all : Ok contents ≡ Ok after = sym (after_none sources contents number) ∙ e in
-    let same : contents ≡ after = cc in subst AreHeld same held
-held_after sources (line ∷ lines) contents number after held e =
+    let same : contents ≡ after = cc in subst P same kept
+kept_after P sources step (line ∷ lines) contents number after kept e =
     by_line (line_says sources contents line) refl e
-    (λ (it : Option Said) (next : AreHeld (with_said number it contents)) (given : contents_after sources (with_said number it contents) (number + 1) lines ≡ Ok after). held_after sources lines (with_said number it contents) (number + 1) after next given)
+    (λ (it : Option Said) (next : P (with_said number it contents)) (given : contents_after sources (with_said number it contents) (number + 1) lines ≡ Ok after). kept_after P sources step lines (with_said number it contents) (number + 1) after next given)
   where
-    by_line : (outcome : Result (Option Said) ScriptCause) → line_says sources contents line ≡ outcome → contents_after sources contents number (line ∷ lines) ≡ Ok after → ((it : Option Said) → AreHeld (with_said number it contents) → contents_after sources (with_said number it contents) (number + 1) lines ≡ Ok after → AreHeld after) → AreHeld after
+    by_line : (outcome : Result (Option Said) ScriptCause) → line_says sources contents line ≡ outcome → contents_after sources contents number (line ∷ lines) ≡ Ok after → ((it : Option Said) → P (with_said number it contents) → contents_after sources (with_said number it contents) (number + 1) lines ≡ Ok after → P after) → P after
     by_line (Ok it) says given next =
-        next it (still_held number contents it (said_stands sources contents line it says) held) (sym (after_said sources contents number line lines it says) ∙ given)
+        next it (step number contents it (said_stands sources contents line it says) kept) (sym (after_said sources contents number line lines it says) ∙ given)
     by_line (Err cause) says given next =
         let fault : Err (fault_at number cause) ≡ Ok after = sym (after_cause sources contents number line lines cause says) ∙ given in
         cc
@@ -240,12 +243,12 @@ none_held =
       later = λ lane round behind. refl;
     }
 
-held_of : (sources : ℕ) (text : List ℕ) (contents : Contents) → contents_of sources text ≡ Ok contents → AreHeld contents
+kept_of : (P : Contents → Type 0) (sources : ℕ) (step : (number : ℕ) (contents : Contents) (it : Option Said) → MayStand sources contents it → P contents → P (with_said number it contents)) (text : List ℕ) (contents : Contents) → P no_contents → contents_of sources text ≡ Ok contents → P contents
 unfolding contents_of
-held_of sources text contents e =
-    by_test (are_blank (lines_of text)) (blank_fault (lines_of text)) (contents_after sources no_contents 1 (lines_of text)) e (λ (given : contents_after sources no_contents 1 (lines_of text) ≡ Ok contents). held_after sources (lines_of text) no_contents 1 contents none_held given)
+kept_of P sources step text contents none e =
+    by_test (are_blank (lines_of text)) (blank_fault (lines_of text)) (contents_after sources no_contents 1 (lines_of text)) e (λ (given : contents_after sources no_contents 1 (lines_of text) ≡ Ok contents). kept_after P sources step (lines_of text) no_contents 1 contents none given)
   where
-    by_test : (blank : Bool) (fault : LineFault) (given : Result Contents LineFault) → (if blank then Err fault else given) ≡ Ok contents → (given ≡ Ok contents → AreHeld contents) → AreHeld contents
+    by_test : (blank : Bool) (fault : LineFault) (given : Result Contents LineFault) → (if blank then Err fault else given) ≡ Ok contents → (given ≡ Ok contents → P contents) → P contents
     by_test true fault given e next = cc
     by_test false fault given e next = next e
 
@@ -258,7 +261,33 @@ no_left (Some count) (Some line) contents lanes is none = let told = rw (lanes, 
 pub script_keeps_holds : (sources : ℕ) (text : List ℕ) (script : Script) → ReadsScript sources text script → KeepsHolds script.operations
 script_keeps_holds sources text script read =
     let contents = read.contents in
-    let held = held_of sources text contents read.given in
+    let held = kept_of AreHeld sources (still_held sources) text contents none_held read.given in
     let dropped = no_left contents.lanes (first_left contents) contents refl refl read.no_fault in
     let keeps = all_dropped contents.rounds contents.operations contents.holds contents.left held dropped in
     rw read.operations keeps
+
+fourth_of_five : (a b c d e : Bool) → least_cause ((causes.HoldTwice, a) ∷ (causes.HoldUnknown, b) ∷ (causes.TooManyHolds, c) ∷ (causes.SourceIndex, d) ∷ (causes.Limit, e) ∷ []) ≡ None → d ≡ false
+fourth_of_five a b c false e h = refl
+fourth_of_five true b c true e h = cc
+fourth_of_five false true c true e h = cc
+fourth_of_five false false true true e h = cc
+fourth_of_five false false false true e h = cc
+
+abbrev AreKnown : ℕ → Contents → Type 0
+AreKnown sources contents = KeepsSources sources contents.operations
+
+-- one more line asks for no text that isn't there
+still_known : (sources number : ℕ) (contents : Contents) (it : Option Said) → MayStand sources contents it → AreKnown sources contents → AreKnown sources (with_said number it contents)
+still_known sources number contents None may known = known
+still_known sources number contents (Some (said.Lanes lanes)) may known = known
+still_known sources number contents (Some said.Round) may known = known
+still_known sources number contents (Some (said.Operation lane op)) may known =
+    let missing = fourth_of_five (is_held_twice lane contents.holds (hold_begun op)) (is_unknown lane contents.holds (hold_needed op)) (is_crowded lane contents.holds (hold_begun op)) (is_missing sources (source_asked op)) (is_late contents op) may in
+    let done : Operation = record { line = number; round = contents.rounds; lane = lane; op = op } in
+    list_all-append (is_there sources) contents.operations (done ∷ [])
+    ∙ both_tests (list_all (is_there sources) contents.operations) (list_all (is_there sources) (done ∷ [])) known (rw missing refl)
+
+-- a script that is read asks for no text that isn't there
+pub script_keeps_sources : (sources : ℕ) (text : List ℕ) (script : Script) → ReadsScript sources text script → KeepsSources sources script.operations
+script_keeps_sources sources text script read =
+    rw read.operations (kept_of (AreKnown sources) sources (still_known sources) text read.contents refl read.given)

@@ -1,9 +1,10 @@
--- The rules on holds, by the operations of one lane in one round.
-use Rattle.std.specs.Prelude.{◌≡◌, ℕ, ◌==◌, nat_lt, Bool, true, not, ◌&&◌, if◌then◌else◌, List, [], ◌∷◌, ◌++◌, length, map, Option, Some, None}
-use Rattle.std.specs.List.{filter, list_any}
+-- What operations keep: the rules on holds, by the operations of one lane in one round, and that each text is there.
+use Rattle.std.specs.Prelude.{◌≡◌, ℕ, ◌==◌, nat_lt, Bool, true, not, ◌&&◌, if◌then◌else◌, List, [], ◌∷◌, ◌++◌, length, map, Option, Some, None, IsTrue}
+use Rattle.std.specs.List.{filter, list_all, list_any}
 use Rattle.tz_specs.specs.Value.{is_exactly}
 use Rattle.tz_script.specs.Limit.{most_holds}
-use Rattle.tz_script.specs.Operation.{hold_begun, hold_needed}
+use Rattle.tz_script.specs.Line.{is_missing}
+use Rattle.tz_script.specs.Operation.{hold_begun, hold_needed, source_asked}
 use Rattle.tz_script.specs.declared.operation.Op.{Op}
 use Rattle.tz_script.specs.declared.operation.Op.TheVariants as ops
 use Rattle.tz_script.specs.declared.operation.Operation.{Operation}
@@ -48,3 +49,11 @@ names_open names (op ∷ more) = if may_stand names op then names_open (names_af
 -- In each round each lane begins without an open hold, may do what it does, and ends without one.
 abbrev pub KeepsHolds : List Operation → Type 0
 KeepsHolds operations = (lane round : ℕ) → names_open [] (ops_in lane round operations) ≡ Some []
+
+-- there is a text of the number that is asked for
+abbrev pub is_there : ℕ → Operation → Bool
+is_there sources operation = not (is_missing sources (source_asked operation.op))
+
+-- each text that is asked for is there
+abbrev pub KeepsSources : ℕ → List Operation → Type 0
+KeepsSources sources operations = IsTrue (list_all (is_there sources) operations)

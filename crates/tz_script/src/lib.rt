@@ -40,7 +40,7 @@ pub use error::ScriptError;
 pub use hold_name::HoldName;
 pub use laws::{
     at_most_one_script, at_most_one_script_fault, each_script_is_read_or_refused,
-    read_scripts_are_not_refused, read_scripts_keep_holds,
+    read_scripts_are_not_refused, read_scripts_keep_holds, read_scripts_keep_sources,
 };
 pub use limit::{LONGEST_LINE, MOST_CHANGES, MOST_HOLDS, MOST_LANES, MOST_OPERATIONS, MOST_ROUNDS};
 pub use operation::{Op, Operation, Pick};

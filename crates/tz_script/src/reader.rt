@@ -5,7 +5,7 @@ ghost use Rattle.tz_script.specs.Cause.{fault_at};
 ghost use Rattle.tz_script.specs.Contents.{no_contents};
 ghost use Rattle.tz_script.specs.Gathered.{contents_gathered};
 ghost use Rattle.tz_script.specs.Inside.{are_before};
-ghost use Rattle.tz_script.specs.Keeping.{KeepsHolds};
+ghost use Rattle.tz_script.specs.Keeping.{KeepsHolds, KeepsSources};
 ghost use Rattle.tz_script.specs.Script.{contents_after, are_blank, blank_fault, contents_of, ReadsScript};
 ghost use Rattle.tz_script.specs.Tells.{MeansFault, MeansWholeFault, IsScriptOf, MeansRefusal};
 
@@ -166,6 +166,7 @@ pub fn read_script(alloc: Global, text: &[u8], sources: u32) -> Result<Script, S
     requires { length text.now ≤ 4_194_304 }
     ensures ok { IfOk result (λ script. ReadsScript sources text.now script) }
     ensures holds { IfOk result (λ script. KeepsHolds script.operations) }
+    ensures sources { IfOk result (λ script. KeepsSources sources script.operations) }
     ensures refused { IfErr result (λ e. MeansRefusal e sources text.now) }
 {
     match read_whole(alloc, text, sources) {
