@@ -1,18 +1,14 @@
 -- Scripts that are read keep the rules on holds.
-use Rattle.std.proofs.Common.{◌≡◌, ℕ, ◌+◌, ◌<◌, ◌≤◌, ◌==◌, nat_le, nat_lt, Bool, true, false, not, ◌&&◌, if◌then◌else◌, ◌⊎◌, List, [], ◌∷◌, ◌++◌, length, map, Option, Some, None, Result, Ok, Err, IsTrue, refl, sym, ap, ◌∙◌, ⊎_elim, option_map, arith}
-use Rattle.std.specs.List.{filter, list_any, count_by}
+use Rattle.std.proofs.Common.{◌≡◌, ℕ, ◌+◌, ◌==◌, Bool, true, false, not, if◌then◌else◌, List, [], ◌∷◌, ◌++◌, length, map, Option, Some, None, refl, ap, ◌∙◌, ⊎_elim, arith}
+use Rattle.std.specs.List.{filter, count_by}
 use Rattle.std.proofs.lemmas.Bool.{cases_Bool}
 use Rattle.std.proofs.lemmas.Bool.Decides.{nat_tests}
 use Rattle.std.proofs.lemmas.List.{map-append, append-nil}
 use Rattle.std.proofs.lemmas.List.Recursion.{is_count_by}
 use Rattle.std.proofs.lemmas.List.Elements.{filter-append}
 use Rattle.tz_specs.specs.Value.{is_exactly}
-use Rattle.tz_script.specs.Cause.{least_cause}
-use Rattle.tz_script.specs.Holds.{is_hold, is_open, is_full, without, first_line, holds_after}
-use Rattle.tz_script.specs.Keeping.{is_in, ops_in, is_named, may_begin, has_needed, may_stand, names_after, names_open, KeepsHolds}
-use Rattle.tz_script.specs.Line.{is_held_twice, is_unknown, is_crowded, is_missing, is_late, standing_causes}
-use Rattle.tz_script.specs.Operation.{hold_begun, hold_needed, source_asked}
-use Rattle.tz_script.specs.declared.cause.ScriptCause.TheVariants as causes
+use Rattle.tz_script.specs.Holds.{is_open, without, holds_after}
+use Rattle.tz_script.specs.Keeping.{is_in, ops_in, is_named, may_stand, names_after, names_open}
 use Rattle.tz_script.specs.declared.holds.OpenHold.{OpenHold}
 use Rattle.tz_script.specs.declared.operation.Op.{Op}
 use Rattle.tz_script.specs.declared.operation.Op.TheVariants as ops

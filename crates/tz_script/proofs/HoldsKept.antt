@@ -1,6 +1,5 @@
 -- What the lines of a script give keeps the rules on holds, line by line.
-use Rattle.std.proofs.Common.{◌≡◌, ℕ, suc, ◌+◌, ◌<◌, ◌≤◌, ◌==◌, nat_le, nat_lt, Bool, true, false, not, ◌&&◌, ◌||◌, if◌then◌else◌, ◌⊎◌, inl, inr, List, [], ◌∷◌, ◌++◌, length, Option, Some, None, Result, Ok, Err, IsTrue, refl, sym, ap, subst, ◌∙◌, ⊎_elim, option_map, arith}
-use Rattle.std.specs.Option.{is_none}
+use Rattle.std.proofs.Common.{◌≡◌, ℕ, ◌+◌, ◌<◌, ◌≤◌, ◌==◌, nat_le, nat_lt, Bool, true, false, not, ◌&&◌, if◌then◌else◌, ◌⊎◌, inl, inr, List, [], ◌∷◌, ◌++◌, length, Option, Some, None, Result, Ok, Err, refl, sym, ap, subst, ◌∙◌, ⊎_elim, option_map, arith}
 use Rattle.std.proofs.lemmas.Bool.{cases_Bool, cases_lt}
 use Rattle.std.specs.List.{list_all}
 use Rattle.std.proofs.lemmas.Bool.Decides.{nat_tests}
@@ -11,9 +10,9 @@ use Rattle.tz_specs.specs.Day.{or_else}
 use Rattle.tz_specs.specs.Line.{lines_of}
 use Rattle.tz_script.specs.Cause.{least_cause, fault_at}
 use Rattle.tz_script.specs.Contents.{Contents, no_contents, first_left, with_said}
-use Rattle.tz_script.specs.Holds.{is_open, is_full, first_line, holds_after}
-use Rattle.tz_script.specs.Keeping.{is_in, ops_in, is_named, may_begin, has_needed, may_stand, names_after, names_open, KeepsHolds, is_there, KeepsSources}
-use Rattle.tz_script.specs.Line.{lanes_said, round_causes, op_causes, lane_causes, operation_causes, operation_said, lane_of, is_round, word_causes, words_say, line_causes, unless_cause, line_says, is_held_twice, is_unknown, is_crowded, is_missing, is_late, standing_causes}
+use Rattle.tz_script.specs.Holds.{is_open, first_line, holds_after}
+use Rattle.tz_script.specs.Keeping.{ops_in, is_named, may_begin, has_needed, may_stand, names_open, KeepsHolds, is_there, KeepsSources}
+use Rattle.tz_script.specs.Line.{lanes_said, round_causes, lane_causes, operation_causes, operation_said, lane_of, is_round, word_causes, words_say, line_causes, unless_cause, line_says, is_held_twice, is_unknown, is_crowded, is_missing, is_late, standing_causes}
 use Rattle.tz_script.specs.OpWords.{op_said}
 use Rattle.tz_script.specs.Operation.{hold_begun, hold_needed, source_asked}
 use Rattle.tz_script.specs.Script.{contents_after, contents_of, are_blank, blank_fault, whole_fault, ReadsScript}

@@ -4,7 +4,6 @@ use Rattle.tz_specs.specs.Day.{or_else}
 use Rattle.tz_script.specs.Holds.{first_line, holds_after}
 use Rattle.tz_script.specs.Operation.{is_change}
 use Rattle.tz_script.specs.declared.holds.OpenHold.{OpenHold}
-use Rattle.tz_script.specs.declared.operation.Op.{Op}
 use Rattle.tz_script.specs.declared.operation.Operation.{Operation}
 use Rattle.tz_script.specs.declared.said.Said.{Said}
 use Rattle.tz_script.specs.declared.said.Said.TheVariants as said

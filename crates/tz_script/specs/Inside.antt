@@ -1,5 +1,5 @@
 -- What a script keeps: how many lanes, rounds and operations it has, and where its operations stand.
-use Rattle.std.specs.Prelude.{◌≡◌, ℕ, ◌≤◌, nat_lt, Bool, true, ◌&&◌, List, length, count_by, Option, Some, None, IsTrue}
+use Rattle.std.specs.Prelude.{ℕ, ◌≤◌, nat_lt, Bool, true, ◌&&◌, List, length, count_by, Option, Some, None, IsTrue}
 use Rattle.std.specs.List.{list_all}
 use Rattle.tz_types.specs.Civil.{is_from_to}
 use Rattle.tz_types.specs.Order.{ascends}

@@ -6,6 +6,7 @@ pub mod FirstWord
 pub mod Keyword
 pub mod Operand
 pub mod Operation
+pub mod Size
 pub mod OpWords
 pub mod Holds
 pub mod Contents

@@ -2,6 +2,8 @@
 ghost use Rattle.std.specs.Prelude.{◌≡◌, ◌≤◌};
 ghost use Rattle.tz_script.specs.Inside.{change_count, IsSound};
 ghost use Rattle.tz_script.specs.Limit.{most_rounds, most_changes};
+ghost use Rattle.std.proofs.Props.{props};
+ghost use Rattle.tz_script.specs.Size.{AreSized};
 
 use crate::holds::OpenHold;
 use crate::operation::Operation;
@@ -22,4 +24,5 @@ pub struct Gathered {
     pub ghost few_changes: { changes ≤ most_changes },
     pub ghost counted: { changes ≡ change_count operations },
     pub ghost sound: { IsSound lanes rounds operations },
+    pub ghost sized: { AreSized operations } by { Prim.hlevel props },
 }

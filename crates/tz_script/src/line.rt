@@ -7,6 +7,7 @@ ghost use Rattle.tz_script.specs.Limit.{most_lanes};
 ghost use Rattle.tz_script.specs.Line.{lanes_said, first_causes, round_causes, op_causes, is_held_twice, is_unknown, is_crowded, is_missing, is_late, standing_causes, operation_causes, operation_said, word_causes, words_say, line_says};
 ghost use Rattle.tz_script.specs.Operation.{hold_begun, hold_needed, source_asked};
 ghost use Rattle.tz_script.specs.OpWords.{op_said};
+ghost use Rattle.tz_script.specs.Size.{IsSized};
 ghost use Rattle.tz_script.specs.Tells.{Means, Tells};
 ghost use Rattle.tz_script.specs.Words.{words_of};
 
@@ -68,6 +69,7 @@ fn round(text: &[u8], gathered: &Gathered) -> Result<Said, ScriptCause>
 fn operation_of(text: &[u8], gathered: &Gathered) -> Result<Op, ScriptCause>
     ensures told { Tells (op_causes (contents_gathered gathered.now) (words_of text.now)) (op_said (words_of text.now)) result }
     ensures begun { IfOk result (λ _. 0 < gathered.now.rounds) }
+    ensures sized { IfOk result IsSized }
 {
     let Some((keyword, rest)) = keyword(text) else {
         return Err(ScriptCause::Op);

@@ -2,6 +2,8 @@
 ghost use Rattle.std.specs.Prelude.{◌≤◌, Some};
 ghost use Rattle.tz_script.specs.Inside.{change_count, IsSound};
 ghost use Rattle.tz_script.specs.Limit.{most_rounds, most_changes};
+ghost use Rattle.std.proofs.Props.{props};
+ghost use Rattle.tz_script.specs.Size.{AreSized};
 
 use crate::operation::Operation;
 use tz_types::Items;
@@ -16,4 +18,5 @@ pub struct Script {
     pub ghost few_rounds: { rounds ≤ most_rounds },
     pub ghost few_changes: { change_count operations ≤ most_changes },
     pub ghost sound: { IsSound (Some lanes) rounds operations },
+    pub ghost sized: { AreSized operations } by { Prim.hlevel props },
 }
