@@ -115,7 +115,8 @@ said_stands sources contents line it e =
     let parts = ok_parts (least_cause (line_causes sources contents line)) (words_say contents.lanes (line_words line)) it e in
     by_words sources contents contents.lanes (line_words line) it (behind_one _ (word_causes sources contents contents.lanes (line_words line)) parts.0) parts.1
 
--- The round that was begun last has these holds open; those before it have none, where none was left open; and there is none after it.
+-- The round that was begun last has these holds open; those before it have none, where none was left open; and there is
+-- none after it.
 record AreKept (rounds : ℕ) (operations : List Operation) (holds : List OpenHold) (left : Option ℕ) : Type 0 where
   here : (lane : ℕ) → names_open [] (ops_in lane rounds operations) ≡ Some (names_in lane holds)
   earlier : left ≡ None → (lane round : ℕ) → round < rounds → names_open [] (ops_in lane round operations) ≡ Some []

@@ -26,8 +26,8 @@ abbrev pub AreLanes : Said → Type 0
 AreLanes (said.Lanes lanes) = IsInRange 1 most_lanes lanes
 AreLanes _ = ⊥
 
--- What is said may stand behind the contents: no line has said yet how many lanes there are, the round isn't one too many, or the
--- operation has its lane and a round, isn't one too many, and has numbers of their size.
+-- What is said may stand behind the contents: no line has said yet how many lanes there are, the round isn't one too
+-- many, or the operation has its lane and a round, isn't one too many, and has numbers of their size.
 abbrev pub MayFollow : Contents → Said → Type 0
 MayFollow contents (said.Lanes lanes) = (contents.lanes ≡ None) × IsInRange 1 most_lanes lanes
 MayFollow contents said.Round = contents.rounds < most_rounds

@@ -21,18 +21,22 @@ use Rattle.tz_script.specs.declared.said.Said.TheVariants as said
 
 -- The first line that isn't blank: `lanes N`.
 
+-- how many lanes there are, by the words `lanes N`
 unfoldable pub lanes_said : List (List ℕ) → Option ℕ
 lanes_said words = first lanes_word_of words >>= λ word. first lane_count_of word.1 >>= λ lanes. ends lanes.0 lanes.1
 
+-- its cause
 abbrev pub first_causes : List (List ℕ) → List (ScriptCause × Bool)
 first_causes words = (causes.Lanes, is_none (lanes_said words)) ∷ []
 
 -- A later line `round`, by the words behind it.
 
+-- there is a word
 abbrev pub has_word : List (List ℕ) → Bool
 has_word [] = false
 has_word (word ∷ words) = true
 
+-- words follow, or it is the 1,025th round
 abbrev pub round_causes : Contents → List (List ℕ) → List (ScriptCause × Bool)
 round_causes contents words =
     (causes.Operand, has_word words) ∷ (causes.Limit, nat_le most_rounds contents.rounds) ∷ []
@@ -87,16 +91,19 @@ lane_causes sources contents (Some lane) (Some op) = standing_causes sources con
 abbrev pub lane_of : ℕ → List ℕ → Option ℕ
 lane_of lanes word = counted_of 1 lanes word
 
+-- the causes of an operation, in rising order
 abbrev pub operation_causes : ℕ → Contents → ℕ → List ℕ → List (List ℕ) → List (ScriptCause × Bool)
 operation_causes sources contents lanes word words =
     op_causes contents words ++ lane_causes sources contents (lane_of lanes word) (op_said words)
 
+-- the operation and its lane
 abbrev pub operation_said : ℕ → List ℕ → List (List ℕ) → Option Said
 operation_said lanes word words =
     lane_of lanes word >>= λ lane. op_said words >>= λ op. Some (said.Operation lane op)
 
 -- Any line.
 
+-- the word `round`
 abbrev pub is_round : List ℕ → Bool
 is_round word = is_exactly word (codes "round")
 

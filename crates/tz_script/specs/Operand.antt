@@ -45,6 +45,7 @@ choice_of word =
     else (if is_exactly word (codes "latest") then Some (Some Latest)
     else None))
 
+-- every conversion
 abbrev pub all_conversions : List Conversion
 all_conversions =
     conversions.SysToUtc ∷ conversions.UtcToSys ∷ conversions.UtcInfo ∷ conversions.UtcToTai ∷ conversions.TaiToUtc

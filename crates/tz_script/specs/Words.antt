@@ -34,7 +34,7 @@ spaced_parts (byte ∷ bytes) =
 unfoldable pub words_of : List ℕ → List (List ℕ)
 words_of bytes = filter (λ part. not (is_empty part)) (spaced_parts bytes)
 
--- the words of a line
+-- the words of a line, up to its comment
 abbrev pub line_words : List ℕ → List (List ℕ)
 line_words line = words_of (before_comment line)
 

@@ -9,9 +9,9 @@ use crate::holds::OpenHold;
 use crate::operation::Operation;
 use tz_types::Items;
 
-/// How many lanes there are, once a line has said so; how many rounds have begun; the operations, in the order of their lines;
-/// how many of them are reloads or erasures; the holds that are open in this round; and the line of the first hold that
-/// wasn't dropped in an earlier one.
+/// How many lanes there are, once a line has said so; how many rounds have begun; the operations, in the order of their
+/// lines; how many of them are reloads or erasures; the holds that are open in this round; and the line of the first
+/// hold that wasn't dropped in an earlier one.
 #[derive(Debug, Drop)]
 pub struct Gathered {
     pub lanes: Option<u32>,

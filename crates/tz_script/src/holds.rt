@@ -1,4 +1,5 @@
-//! The holds that are open in a round.
+//! The holds that are open in a round. A lane has at most seven, so that an operation looks at few, however long the
+//! script is.
 ghost use Rattle.std.specs.Prelude.{◌≡◌, ◌==◌, ◌∷◌, ◌++◌, [], count_by, OnOk};
 ghost use Rattle.tz_script.specs.Holds.{is_hold, is_open, is_full, without, first_line, holds_after};
 

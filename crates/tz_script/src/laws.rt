@@ -21,8 +21,8 @@ pub fn read_scripts_are_not_refused()
     ensures { (sources : ℕ) (text : List ℕ) (script : DeclaredScript) (fault : LineFault) → ReadsScript sources text script → ¬ (RefusesScript sources text fault) }
 {}
 
-/// Where a script is read, each lane has no hold open as a round begins, does only what it may by its open holds, and has none
-/// open as the round ends.
+/// Where a script is read, each lane has no hold open as a round begins, does only what it may by its open holds, and
+/// has none open as the round ends.
 pub fn read_scripts_keep_holds()
     ensures { (sources : ℕ) (text : List ℕ) (script : DeclaredScript) → ReadsScript sources text script → KeepsHolds script.operations }
 {}

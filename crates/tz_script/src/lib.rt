@@ -11,9 +11,9 @@
 //! 1 drop old
 //! ```
 //!
-//! A line is cut into words; the words are read as an operation; and what stands before a line decides whether the operation
-//! may stand there. What a text says is defined in specs/Script.antt. The layer above runs the rounds one after another, and
-//! the lanes of a round each in the order of its operations.
+//! A line is cut into words; the words are read as an operation; and what stands before a line decides whether the
+//! operation may stand there. What a text says is defined in specs/Script.antt. The layer above runs the rounds one
+//! after another, and the lanes of a round each in the order of its operations.
 #![tactic(auto)]
 
 mod adding;

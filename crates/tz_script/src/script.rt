@@ -8,8 +8,9 @@ ghost use Rattle.tz_script.specs.Size.{AreSized};
 use crate::operation::Operation;
 use tz_types::Items;
 
-/// A script: how many lanes it has, from 1 to 16, how many rounds, at most 1,024, and its operations in the order of their
-/// lines, at most 65,536, of which at most 4,096 are reloads or erasures. Each operation has a lane and a round from 1 on.
+/// A script: how many lanes it has, from 1 to 16, how many rounds, at most 1,024, and its operations in the order of
+/// their lines, at most 65,536, of which at most 4,096 are reloads or erasures. Each operation has a lane and a round
+/// from 1 on.
 #[derive(Debug, Drop)]
 pub struct Script {
     pub lanes: u32,
