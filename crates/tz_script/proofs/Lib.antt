@@ -4,3 +4,5 @@ pub mod Soundness
 pub mod LineCuts
 pub mod Reading
 pub mod ScriptLaws
+pub mod HoldRules
+pub mod HoldsKept

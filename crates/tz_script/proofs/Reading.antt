@@ -1,6 +1,5 @@
 -- What the lines of a script give, line by line.
-use Rattle.std.proofs.Common.{◌≡◌, ℕ, ◌+◌, List, [], ◌∷◌, Option, Some, None, Result, Ok, Err, refl, sym, ap, ◌∙◌}
-use Rattle.tz_types.specs.declared.fault.LineFault.{LineFault}
+use Rattle.std.proofs.Common.{◌≡◌, ℕ, ◌+◌, List, [], ◌∷◌, Option, Ok, Err, refl}
 use Rattle.tz_script.specs.Cause.{fault_at}
 use Rattle.tz_script.specs.Contents.{Contents, with_said}
 use Rattle.tz_script.specs.Line.{line_says}

@@ -2,7 +2,7 @@
 use Rattle.std.proofs.Common.{◌≡◌, ℕ, ◌⊎◌, inl, inr, List, Option, Some, None, Result, Ok, Err, refl, sym, ap, ◌∙◌}
 use Rattle.tz_types.specs.declared.fault.LineFault.{LineFault}
 use Rattle.tz_script.specs.Contents.{Contents}
-use Rattle.tz_script.specs.Script.{contents_of, whole_fault, ReadsScript, RefusesScript, RefusesWholeScript}
+use Rattle.tz_script.specs.Script.{contents_of, whole_fault, ReadsScript, RefusesScript}
 use Rattle.tz_script.specs.Laws.{HasSameParts, IsReadable}
 use Rattle.tz_script.specs.declared.script.Script.{Script}
 

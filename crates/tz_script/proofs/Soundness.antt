@@ -1,16 +1,18 @@
 -- Where the operations of a script stand, with one line more.
-use Rattle.std.proofs.Common.{◌≡◌, ℕ, ◌+◌, ◌<◌, ◌≤◌, nat_lt, nat_le, Bool, true, false, not, ◌&&◌, ◌||◌, List, [], ◌∷◌, ◌++◌, length, Option, Some, None, IsTrue, length-append, refl, sym, ap, ◌∙◌, cond, arith}
-use Rattle.std.specs.List.{list_all, count_by}
+use Rattle.std.proofs.Common.{◌≡◌, ℕ, ◌+◌, ◌<◌, ◌≤◌, nat_lt, nat_le, Bool, true, false, not, ◌&&◌, ◌||◌, List, [], ◌∷◌, ◌++◌, length, Option, Some, None, IsTrue, length-append, refl, ap, ◌∙◌, cond, arith}
+use Rattle.std.specs.List.{list_all}
 use Rattle.std.proofs.lemmas.Bool.{and_parts}
+use Rattle.std.proofs.lemmas.List.Elements.{All-append, All-cons}
 use Rattle.std.proofs.lemmas.List.Folds.{list_all-append}
 use Rattle.std.proofs.lemmas.List.Sums.{sum_by-append}
 use Rattle.tz_types.specs.Civil.{is_from_to}
 use Rattle.tz_types.specs.Order.{ascends, ascends_after}
 use Rattle.tz_script.specs.Cause.{least_cause}
 use Rattle.tz_script.specs.Contents.{Contents}
-use Rattle.tz_script.specs.Inside.{lane_count, are_lanes, is_inside, stands_before, are_before, change_count, IsSound}
+use Rattle.tz_script.specs.Inside.{lane_count, is_inside, stands_before, are_before, change_count, IsSound}
 use Rattle.tz_script.specs.Line.{standing_causes, is_held_twice, is_unknown, is_crowded, is_missing, is_late}
 use Rattle.tz_script.specs.Operation.{is_change, hold_begun, hold_needed, source_asked}
+use Rattle.tz_script.specs.Size.{IsSized, AreSized}
 use Rattle.tz_script.specs.declared.cause.ScriptCause.TheVariants as causes
 use Rattle.tz_script.specs.declared.operation.Op.{Op}
 use Rattle.tz_script.specs.declared.operation.Operation.{Operation}
@@ -127,3 +129,9 @@ room_for_change contents op may few = by_change (is_change op) (length contents.
     by_change : (change : Bool) (operations changes : ℕ) → IsTrue (not (nat_le 65_536 operations || (change && nat_le 4_096 changes))) → changes ≤ 4_096 → changes + cond change 1 0 ≤ 4_096
     by_change true operations changes may few = grind arith
     by_change false operations changes may few = omega arith
+
+-- one more operation of its size
+pub sized_pushed : (operations : List Operation) (operation : Operation) → AreSized operations → IsSized operation.op → AreSized (operations ++ operation ∷ [])
+sized_pushed operations operation sized here =
+    All-append (λ (it : Operation). IsSized it.op) operations (operation ∷ []) sized
+    (All-cons (λ (it : Operation). IsSized it.op) operation [] here (λ k d low. absurd (omega arith)))

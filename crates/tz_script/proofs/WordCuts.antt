@@ -1,5 +1,5 @@
 -- Where a line is cut into words, and before its comment.
-use Rattle.std.proofs.Common.{◌≡◌, ℕ, zero, suc, ◌<◌, ◌≤◌, length-drop, Bool, true, false, not, List, [], ◌∷◌, length, take, drop, get_or, Option, Some, None, nat_lt, refl, sym, ap, ◌∙◌, ⊎_elim, arith}
+use Rattle.std.proofs.Common.{◌≡◌, ℕ, zero, suc, ◌<◌, ◌≤◌, length-drop, Bool, true, false, not, List, [], ◌∷◌, length, take, drop, get_or, Some, None, refl, ap, ◌∙◌, ⊎_elim, arith}
 use Rattle.std.specs.List.{position, position_or_len}
 use Rattle.std.proofs.lemmas.Bool.{cases_lt, lt-ltb}
 use Rattle.std.proofs.lemmas.List.{drop_all}

@@ -4,6 +4,7 @@ use Rattle.tz_types.specs.declared.fault.LineFault.{LineFault}
 use Rattle.tz_script.specs.declared.cause.ScriptCause.{ScriptCause}
 use Rattle.tz_script.specs.declared.cause.ScriptCause.TheVariants as causes
 
+-- the number by which a cause is told
 abbrev pub cause_number : ScriptCause → ℕ
 cause_number causes.Line = 1
 cause_number causes.Op = 2

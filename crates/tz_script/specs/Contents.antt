@@ -4,14 +4,13 @@ use Rattle.tz_specs.specs.Day.{or_else}
 use Rattle.tz_script.specs.Holds.{first_line, holds_after}
 use Rattle.tz_script.specs.Operation.{is_change}
 use Rattle.tz_script.specs.declared.holds.OpenHold.{OpenHold}
-use Rattle.tz_script.specs.declared.operation.Op.{Op}
 use Rattle.tz_script.specs.declared.operation.Operation.{Operation}
 use Rattle.tz_script.specs.declared.said.Said.{Said}
 use Rattle.tz_script.specs.declared.said.Said.TheVariants as said
 
--- How many lanes there are, once a line has said so; how many rounds have begun; the operations, in the order of their lines;
--- how many of them are reloads or erasures; the holds that are open in this round; and the line of the first hold that wasn't
--- dropped in an earlier one.
+-- How many lanes there are, once a line has said so; how many rounds have begun; the operations, in the order of their
+-- lines; how many of them are reloads or erasures; the holds that are open in this round; and the line of the first
+-- hold that wasn't dropped in an earlier one.
 pub record Contents : Type 0 where
   pub lanes : Option ℕ
   pub rounds : ℕ

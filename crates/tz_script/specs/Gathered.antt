@@ -1,10 +1,11 @@
 -- What the contents that a script has given so far stand for, and what may follow them.
-use Rattle.std.specs.Prelude.{◌≡◌, ℕ, ◌<◌, ◌≤◌, not, Option, Some, None, IsTrue}
+use Rattle.std.specs.Prelude.{◌≡◌, ◌<◌, ◌≤◌, not, Option, Some, None, IsTrue}
 use Rattle.std.specs.Int.{IsInRange}
-use Rattle.tz_types.specs.Civil.{is_from_to}
 use Rattle.tz_script.specs.Contents.{Contents}
 use Rattle.tz_script.specs.Inside.{lane_count}
+use Rattle.tz_script.specs.Limit.{most_lanes, most_rounds}
 use Rattle.tz_script.specs.Line.{is_late}
+use Rattle.tz_script.specs.Size.{IsSized}
 use Rattle.tz_script.specs.declared.gathered.Gathered.{Gathered}
 use Rattle.tz_script.specs.declared.said.Said.{Said}
 use Rattle.tz_script.specs.declared.said.Said.TheVariants as said
@@ -20,18 +21,18 @@ contents_gathered gathered =
       left = gathered.left;
     }
 
--- it is said how many lanes there are, from 1 to 16
+-- it is said how many lanes there are, at least 1 and not too many
 abbrev pub AreLanes : Said → Type 0
-AreLanes (said.Lanes lanes) = IsInRange 1 16 lanes
+AreLanes (said.Lanes lanes) = IsInRange 1 most_lanes lanes
 AreLanes _ = ⊥
 
--- What is said may stand behind the contents: no line has said yet how many lanes there are, the round isn't one too many, or the
--- operation has its lane and a round, and isn't one too many.
+-- What is said may stand behind the contents: no line has said yet how many lanes there are, the round isn't one too
+-- many, or the operation has its lane and a round, isn't one too many, and has numbers of their size.
 abbrev pub MayFollow : Contents → Said → Type 0
-MayFollow contents (said.Lanes lanes) = (contents.lanes ≡ None) × IsInRange 1 16 lanes
-MayFollow contents said.Round = contents.rounds < 1_024
+MayFollow contents (said.Lanes lanes) = (contents.lanes ≡ None) × IsInRange 1 most_lanes lanes
+MayFollow contents said.Round = contents.rounds < most_rounds
 MayFollow contents (said.Operation lane op) =
-    (1 ≤ contents.rounds) × IsInRange 1 (lane_count contents.lanes) lane × IsTrue (not (is_late contents op))
+    (1 ≤ contents.rounds) × IsInRange 1 (lane_count contents.lanes) lane × IsTrue (not (is_late contents op)) × IsSized op
 
 -- a blank line may stand anywhere
 abbrev pub MayBeNext : Contents → Option Said → Type 0

@@ -1,8 +1,9 @@
 -- What a script keeps: how many lanes, rounds and operations it has, and where its operations stand.
-use Rattle.std.specs.Prelude.{◌≡◌, ℕ, ◌≤◌, nat_lt, Bool, true, ◌&&◌, List, length, count_by, Option, Some, None, IsTrue}
+use Rattle.std.specs.Prelude.{ℕ, ◌≤◌, nat_lt, Bool, true, ◌&&◌, List, length, count_by, Option, Some, None, IsTrue}
 use Rattle.std.specs.List.{list_all}
 use Rattle.tz_types.specs.Civil.{is_from_to}
 use Rattle.tz_types.specs.Order.{ascends}
+use Rattle.tz_script.specs.Limit.{most_lanes, most_operations}
 use Rattle.tz_script.specs.Operation.{is_change}
 use Rattle.tz_script.specs.declared.operation.Operation.{Operation}
 
@@ -11,10 +12,10 @@ abbrev pub lane_count : Option ℕ → ℕ
 lane_count None = 0
 lane_count (Some lanes) = lanes
 
--- 1 to 16, once a line has said so
+-- at least 1 and not too many, once a line has said so
 abbrev pub are_lanes : Option ℕ → Bool
 are_lanes None = true
-are_lanes (Some lanes) = is_from_to 1 16 lanes
+are_lanes (Some lanes) = is_from_to 1 most_lanes lanes
 
 -- the lane and the round of the operation are among so many
 abbrev pub is_inside : ℕ → ℕ → Operation → Bool
@@ -32,9 +33,9 @@ are_before number operations = list_all (λ operation. nat_lt operation.line num
 abbrev pub change_count : List Operation → ℕ
 change_count operations = count_by (λ (operation : Operation). is_change operation.op) operations
 
--- There are at most 16 lanes and 65,536 operations, each in its lane and round, and they stand in the order of their lines.
+-- There are not too many lanes and operations, each in its lane and round, and they stand in the order of their lines.
 pub record IsSound (lanes : Option ℕ) (rounds : ℕ) (operations : List Operation) : Type 0 where
   pub lanes_in : IsTrue (are_lanes lanes)
-  pub few : length operations ≤ 65_536
+  pub few : length operations ≤ most_operations
   pub inside : IsTrue (list_all (is_inside (lane_count lanes) rounds) operations)
   pub rising : IsTrue (ascends stands_before operations)

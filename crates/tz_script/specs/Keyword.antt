@@ -18,6 +18,7 @@ keyword_word keywords.Reload = codes "reload"
 keyword_word keywords.Erase = codes "erase"
 keyword_word keywords.List = codes "list"
 
+-- every operation
 abbrev pub all_keywords : List Keyword
 all_keywords =
     keywords.Look ∷ keywords.Hold ∷ keywords.Drop ∷ keywords.Info ∷ keywords.Local ∷ keywords.Sys ∷ keywords.Scan

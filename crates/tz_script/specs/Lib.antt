@@ -1,3 +1,4 @@
+pub mod Limit
 pub mod Cause
 pub mod HoldName
 pub mod Words
@@ -5,6 +6,7 @@ pub mod FirstWord
 pub mod Keyword
 pub mod Operand
 pub mod Operation
+pub mod Size
 pub mod OpWords
 pub mod Holds
 pub mod Contents
@@ -15,3 +17,4 @@ pub mod Script
 pub mod Tells
 pub mod Messages
 pub mod Laws
+pub mod Keeping

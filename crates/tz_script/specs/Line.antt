@@ -7,6 +7,7 @@ use Rattle.tz_script.specs.Cause.{least_cause}
 use Rattle.tz_script.specs.Contents.{Contents}
 use Rattle.tz_script.specs.FirstWord.{first, ends}
 use Rattle.tz_script.specs.Holds.{is_open, is_full}
+use Rattle.tz_script.specs.Limit.{most_rounds, most_operations, most_changes}
 use Rattle.tz_script.specs.Operand.{counted_of, lanes_word_of, lane_count_of}
 use Rattle.tz_script.specs.Operation.{hold_begun, hold_needed, source_asked, is_change}
 use Rattle.tz_script.specs.OpWords.{keyword_first, op_said}
@@ -20,21 +21,25 @@ use Rattle.tz_script.specs.declared.said.Said.TheVariants as said
 
 -- The first line that isn't blank: `lanes N`.
 
+-- how many lanes there are, by the words `lanes N`
 unfoldable pub lanes_said : List (List ℕ) → Option ℕ
 lanes_said words = first lanes_word_of words >>= λ word. first lane_count_of word.1 >>= λ lanes. ends lanes.0 lanes.1
 
+-- its cause
 abbrev pub first_causes : List (List ℕ) → List (ScriptCause × Bool)
 first_causes words = (causes.Lanes, is_none (lanes_said words)) ∷ []
 
 -- A later line `round`, by the words behind it.
 
+-- there is a word
 abbrev pub has_word : List (List ℕ) → Bool
 has_word [] = false
 has_word (word ∷ words) = true
 
+-- words follow, or it is the 1,025th round
 abbrev pub round_causes : Contents → List (List ℕ) → List (ScriptCause × Bool)
 round_causes contents words =
-    (causes.Operand, has_word words) ∷ (causes.Limit, nat_le 1_024 contents.rounds) ∷ []
+    (causes.Operand, has_word words) ∷ (causes.Limit, nat_le most_rounds contents.rounds) ∷ []
 
 -- An operation, by the number of lanes, the word of its lane and the words behind it.
 
@@ -65,7 +70,7 @@ is_missing sources (Some src) = nat_le sources src
 
 -- it is the 65,537th operation, or the 4,097th reload or erasure
 abbrev pub is_late : Contents → Op → Bool
-is_late contents op = nat_le 65_536 (length contents.operations) || (is_change op && nat_le 4_096 contents.changes)
+is_late contents op = nat_le most_operations (length contents.operations) || (is_change op && nat_le most_changes contents.changes)
 
 -- the causes of an operation of a lane
 abbrev pub standing_causes : ℕ → Contents → ℕ → Op → List (ScriptCause × Bool)
@@ -86,16 +91,19 @@ lane_causes sources contents (Some lane) (Some op) = standing_causes sources con
 abbrev pub lane_of : ℕ → List ℕ → Option ℕ
 lane_of lanes word = counted_of 1 lanes word
 
+-- the causes of an operation, in rising order
 abbrev pub operation_causes : ℕ → Contents → ℕ → List ℕ → List (List ℕ) → List (ScriptCause × Bool)
 operation_causes sources contents lanes word words =
     op_causes contents words ++ lane_causes sources contents (lane_of lanes word) (op_said words)
 
+-- the operation and its lane
 abbrev pub operation_said : ℕ → List ℕ → List (List ℕ) → Option Said
 operation_said lanes word words =
     lane_of lanes word >>= λ lane. op_said words >>= λ op. Some (said.Operation lane op)
 
 -- Any line.
 
+-- the word `round`
 abbrev pub is_round : List ℕ → Bool
 is_round word = is_exactly word (codes "round")
 

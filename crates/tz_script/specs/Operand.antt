@@ -1,5 +1,5 @@
 -- The operands of operations, each a word.
-use Rattle.std.specs.Prelude.{ℕ, ◌==◌, nat_le, Bool, true, false, not, ◌&&◌, if◌then◌else◌, List, [], ◌∷◌, length, codes, find, ℤ, Option, Some, None, option_map}
+use Rattle.std.specs.Prelude.{ℕ, ◌==◌, nat_le, Bool, false, not, ◌&&◌, if◌then◌else◌, List, [], ◌∷◌, length, codes, find, ℤ, Option, Some, None, option_map}
 use Rattle.std.specs.List.{list_all}
 use Rattle.tz_types.specs.Civil.{is_from_to}
 use Rattle.tz_types.specs.Text.{is_printable}
@@ -12,6 +12,7 @@ use Rattle.tz_output.specs.Conversion.{conversion_word}
 use Rattle.tz_output.specs.declared.conversion.Conversion.{Conversion}
 use Rattle.tz_output.specs.declared.conversion.Conversion.TheVariants as conversions
 use Rattle.tz_script.specs.HoldName.{is_front, is_hold_name}
+use Rattle.tz_script.specs.Limit.{most_lanes}
 use Rattle.tz_script.specs.declared.operation.Pick.{Pick}
 use Rattle.tz_script.specs.declared.operation.Pick.TheVariants.{Front, Held}
 
@@ -44,6 +45,7 @@ choice_of word =
     else (if is_exactly word (codes "latest") then Some (Some Latest)
     else None))
 
+-- every conversion
 abbrev pub all_conversions : List Conversion
 all_conversions =
     conversions.SysToUtc ∷ conversions.UtcToSys ∷ conversions.UtcInfo ∷ conversions.UtcToTai ∷ conversions.TaiToUtc
@@ -64,4 +66,4 @@ begins_with_zero (byte ∷ bytes) = byte == 0x30
 
 -- how many lanes there are: 1 to 16, without leading zeros
 abbrev pub lane_count_of : List ℕ → Option ℕ
-lane_count_of word = only_if (not (begins_with_zero word)) word >>= counted_of 1 16
+lane_count_of word = only_if (not (begins_with_zero word)) word >>= counted_of 1 most_lanes

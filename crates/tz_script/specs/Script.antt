@@ -35,8 +35,8 @@ contents_of sources text =
     if are_blank (lines_of text) then Err (blank_fault (lines_of text))
     else contents_after sources no_contents 1 (lines_of text)
 
--- Why a script is refused whose lines have no cause of their own: no line says how many lanes there are, or a hold isn't dropped
--- in its round.
+-- Why a script is refused whose lines have no cause of their own: no line says how many lanes there are, or a hold
+-- isn't dropped in its round.
 abbrev pub whole_fault : Contents → Option LineFault
 whole_fault contents = by_parts contents.lanes (first_left contents)
   where

@@ -1,5 +1,5 @@
--- What is read comes to by its causes.
-use Rattle.std.specs.Prelude.{◌≡◌, Bool, List, Option, Some, None, Result, Ok, Err}
+-- What a step of reading comes to, by its causes.
+use Rattle.std.specs.Prelude.{◌≡◌, ℕ, Bool, List, Option, Some, None, Result, Ok, Err}
 use Rattle.tz_types.specs.declared.fault.LineFault.{LineFault}
 use Rattle.tz_script.specs.Cause.{least_cause}
 use Rattle.tz_script.specs.Contents.{Contents}
@@ -8,7 +8,6 @@ use Rattle.tz_script.specs.declared.cause.ScriptCause.{ScriptCause}
 use Rattle.tz_script.specs.declared.error.ScriptError.{ScriptError}
 use Rattle.tz_script.specs.declared.error.ScriptError.TheVariants as errors
 use Rattle.tz_script.specs.declared.script.Script.{Script}
-use Rattle.std.specs.Prelude.{ℕ}
 
 -- the least cause, or where there is none what is said
 abbrev pub Means : {A : Type 0} → List (ScriptCause × Bool) → A → Result A ScriptCause → Type 0

@@ -5,6 +5,7 @@ use Rattle.tz_types.specs.Text.{is_printable}
 use Rattle.tz_specs.specs.Line.{line_length}
 use Rattle.tz_specs.specs.Parts.{onto_part}
 use Rattle.tz_specs.specs.Word.{is_empty}
+use Rattle.tz_script.specs.Limit.{longest_line}
 
 -- a space, a tab or a carriage return
 abbrev pub is_space : ℕ → Bool
@@ -33,10 +34,10 @@ spaced_parts (byte ∷ bytes) =
 unfoldable pub words_of : List ℕ → List (List ℕ)
 words_of bytes = filter (λ part. not (is_empty part)) (spaced_parts bytes)
 
--- the words of a line
+-- the words of a line, up to its comment
 abbrev pub line_words : List ℕ → List (List ℕ)
 line_words line = words_of (before_comment line)
 
 -- the line is longer than 512 bytes with its newline, or has before its comment a byte that may not stand there
 abbrev pub is_bad_line : List ℕ → Bool
-is_bad_line line = nat_lt 512 (line_length line) || not (list_all is_plain (before_comment line))
+is_bad_line line = nat_lt longest_line (line_length line) || not (list_all is_plain (before_comment line))

@@ -1,14 +1,13 @@
-//! The holds that are open in a round.
+//! The holds that are open in a round. A lane has at most seven, so that an operation looks at few, however long the
+//! script is.
 ghost use Rattle.std.specs.Prelude.{◌≡◌, ◌==◌, ◌∷◌, ◌++◌, [], count_by, OnOk};
 ghost use Rattle.tz_script.specs.Holds.{is_hold, is_open, is_full, without, first_line, holds_after};
 
 use crate::hold_name::HoldName;
+use crate::limit::MOST_HOLDS;
 use crate::operation::Op;
 use crate::words::is_exactly;
 use tz_types::NoMemory;
-
-/// How many holds a lane may have open at once.
-const MOST_HOLDS: usize = 7;
 
 /// A hold that is open: its lane, its name, and the line where it began.
 #[derive(Debug, PartialEq, Drop)]

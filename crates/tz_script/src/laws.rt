@@ -1,6 +1,7 @@
 //! What a text says is settled by the text: laws of specs/Script.antt.
 ghost use Rattle.std.specs.Prelude.{◌≡◌, ℕ, ◌⊎◌, List};
 ghost use Rattle.tz_types.specs.declared.fault.LineFault.{LineFault};
+ghost use Rattle.tz_script.specs.Keeping.{KeepsHolds, KeepsSources};
 ghost use Rattle.tz_script.specs.Script.{ReadsScript, RefusesScript};
 ghost use Rattle.tz_script.specs.Laws.{HasSameParts, IsReadable};
 ghost use Rattle.tz_script.specs.declared.script.Script.{Script as DeclaredScript};
@@ -18,6 +19,17 @@ pub fn at_most_one_script_fault()
 /// A text that is read isn't refused.
 pub fn read_scripts_are_not_refused()
     ensures { (sources : ℕ) (text : List ℕ) (script : DeclaredScript) (fault : LineFault) → ReadsScript sources text script → ¬ (RefusesScript sources text fault) }
+{}
+
+/// Where a script is read, each lane has no hold open as a round begins, does only what it may by its open holds, and
+/// has none open as the round ends.
+pub fn read_scripts_keep_holds()
+    ensures { (sources : ℕ) (text : List ℕ) (script : DeclaredScript) → ReadsScript sources text script → KeepsHolds script.operations }
+{}
+
+/// Where a script is read, each text that it asks for is there.
+pub fn read_scripts_keep_sources()
+    ensures { (sources : ℕ) (text : List ℕ) (script : DeclaredScript) → ReadsScript sources text script → KeepsSources sources script.operations }
 {}
 
 /// Each text gives contents, whose parts a script has, or is refused.

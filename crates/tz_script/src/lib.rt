@@ -11,9 +11,9 @@
 //! 1 drop old
 //! ```
 //!
-//! A line is cut into words; the words are read as an operation; and what stands before a line decides whether the operation
-//! may stand there. What a text says is defined in specs/Script.antt. The layer above runs the rounds one after another, and
-//! the lanes of a round each in the order of its operations.
+//! A line is cut into words; the words are read as an operation; and what stands before a line decides whether the
+//! operation may stand there. What a text says is defined in specs/Script.antt. The layer above runs the rounds one
+//! after another, and the lanes of a round each in the order of its operations.
 #![tactic(auto)]
 
 mod adding;
@@ -24,6 +24,7 @@ mod hold_name;
 mod holds;
 mod keyword;
 mod laws;
+mod limit;
 mod line;
 mod lines;
 mod op_reader;
@@ -39,8 +40,9 @@ pub use error::ScriptError;
 pub use hold_name::HoldName;
 pub use laws::{
     at_most_one_script, at_most_one_script_fault, each_script_is_read_or_refused,
-    read_scripts_are_not_refused,
+    read_scripts_are_not_refused, read_scripts_keep_holds, read_scripts_keep_sources,
 };
+pub use limit::{LONGEST_LINE, MOST_CHANGES, MOST_HOLDS, MOST_LANES, MOST_OPERATIONS, MOST_ROUNDS};
 pub use operation::{Op, Operation, Pick};
 pub use reader::read_script;
 pub use script::Script;

@@ -3,9 +3,11 @@ ghost use Rattle.std.specs.Prelude.{◌≡◌, ◌∷◌, ◌<◌, Some, Ok, Err
 ghost use Rattle.std.specs.Int.{IsInRange};
 ghost use Rattle.tz_script.specs.Cause.{least_cause};
 ghost use Rattle.tz_script.specs.Gathered.{contents_gathered, AreLanes, MayFollow, MayBeNext};
+ghost use Rattle.tz_script.specs.Limit.{most_lanes};
 ghost use Rattle.tz_script.specs.Line.{lanes_said, first_causes, round_causes, op_causes, is_held_twice, is_unknown, is_crowded, is_missing, is_late, standing_causes, operation_causes, operation_said, word_causes, words_say, line_says};
 ghost use Rattle.tz_script.specs.Operation.{hold_begun, hold_needed, source_asked};
 ghost use Rattle.tz_script.specs.OpWords.{op_said};
+ghost use Rattle.tz_script.specs.Size.{IsSized};
 ghost use Rattle.tz_script.specs.Tells.{Means, Tells};
 ghost use Rattle.tz_script.specs.Words.{words_of};
 
@@ -13,26 +15,18 @@ use crate::cause::ScriptCause;
 use crate::gathered::Gathered;
 use crate::hold_name::HoldName;
 use crate::holds::{OpenHold, is_full, is_open};
+use crate::limit::{MOST_CHANGES, MOST_OPERATIONS, MOST_ROUNDS};
 use crate::op_reader::{keyword, op};
 use crate::operand::{counted_of, lane_count_of};
 use crate::operation::Op;
 use crate::said::Said;
 use crate::words::{before_comment, is_bad_line, is_exactly, next_word};
 
-/// How many rounds a script may have.
-const MOST_ROUNDS: u32 = 1_024;
-
-/// How many operations a script may have.
-const MOST_OPERATIONS: usize = 65_536;
-
-/// How many of them may be reloads and erasures.
-const MOST_CHANGES: u32 = 4_096;
-
 /// How many lanes there are, by the words `lanes N`.
 #[tactic(auto, unfolding(crate::specs::Line::lanes_said))]
 fn lanes(text: &[u8]) -> Option<u32>
     ensures value { result ≡ lanes_said (words_of text.now) }
-    ensures bound { IfSome result (IsInRange 1 16) }
+    ensures bound { IfSome result (IsInRange 1 most_lanes) }
 {
     let (word, rest) = next_word(text)?;
     if !is_exactly(word, b"lanes") {
@@ -75,6 +69,7 @@ fn round(text: &[u8], gathered: &Gathered) -> Result<Said, ScriptCause>
 fn operation_of(text: &[u8], gathered: &Gathered) -> Result<Op, ScriptCause>
     ensures told { Tells (op_causes (contents_gathered gathered.now) (words_of text.now)) (op_said (words_of text.now)) result }
     ensures begun { IfOk result (λ _. 0 < gathered.now.rounds) }
+    ensures sized { IfOk result IsSized }
 {
     let Some((keyword, rest)) = keyword(text) else {
         return Err(ScriptCause::Op);

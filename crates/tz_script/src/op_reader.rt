@@ -1,8 +1,9 @@
 //! Operations by their words.
-ghost use Rattle.std.specs.Prelude.{◌≡◌, option_map};
+ghost use Rattle.std.specs.Prelude.{◌≡◌, IfSome, option_map};
 ghost use Rattle.tz_script.specs.FirstWord.{first, ends};
 ghost use Rattle.tz_script.specs.Keyword.{keyword_of};
 ghost use Rattle.tz_script.specs.OpWords.{op_of, keyword_first, hold_op, drop_op, info_op, local_op, sys_op, scan_op, clock_op, reload_op, erase_op};
+ghost use Rattle.tz_script.specs.Size.{IsSized};
 ghost use Rattle.tz_script.specs.Words.{words_of};
 
 use crate::keyword::Keyword;
@@ -12,7 +13,8 @@ use crate::words::next_word;
 
 /// The operation, where no word is left.
 fn ends(op: Op, text: &[u8]) -> Option<Op>
-    ensures { result ≡ ends op (words_of text.now) }
+    ensures value { result ≡ ends op (words_of text.now) }
+    ensures sized { IsSized op → IfSome result IsSized }
 {
     match next_word(text) {
         Some(_) => None,
@@ -30,7 +32,8 @@ pub fn keyword(text: &[u8]) -> Option<(Keyword, &[u8])>
 
 #[tactic(auto, unfolding(crate::specs::OpWords::hold_op))]
 fn hold(text: &[u8]) -> Option<Op>
-    ensures { result ≡ hold_op (words_of text.now) }
+    ensures value { result ≡ hold_op (words_of text.now) }
+    ensures sized { IfSome result IsSized }
 {
     let (name, rest) = hold_name(text)?;
     ends(Op::Hold(name), rest)
@@ -38,7 +41,8 @@ fn hold(text: &[u8]) -> Option<Op>
 
 #[tactic(auto, unfolding(crate::specs::OpWords::drop_op))]
 fn drop(text: &[u8]) -> Option<Op>
-    ensures { result ≡ drop_op (words_of text.now) }
+    ensures value { result ≡ drop_op (words_of text.now) }
+    ensures sized { IfSome result IsSized }
 {
     let (name, rest) = hold_name(text)?;
     ends(Op::Drop(name), rest)
@@ -46,7 +50,8 @@ fn drop(text: &[u8]) -> Option<Op>
 
 #[tactic(auto, unfolding(crate::specs::OpWords::info_op))]
 fn info(text: &[u8]) -> Option<Op>
-    ensures { result ≡ info_op (words_of text.now) }
+    ensures value { result ≡ info_op (words_of text.now) }
+    ensures sized { IfSome result IsSized }
 {
     let (v, rest) = pick(text)?;
     let (zone, rest) = zone_name(rest)?;
@@ -56,7 +61,8 @@ fn info(text: &[u8]) -> Option<Op>
 
 #[tactic(auto, unfolding(crate::specs::OpWords::local_op))]
 fn local_time(text: &[u8]) -> Option<Op>
-    ensures { result ≡ local_op (words_of text.now) }
+    ensures value { result ≡ local_op (words_of text.now) }
+    ensures sized { IfSome result IsSized }
 {
     let (v, rest) = pick(text)?;
     let (zone, rest) = zone_name(rest)?;
@@ -66,7 +72,8 @@ fn local_time(text: &[u8]) -> Option<Op>
 
 #[tactic(auto, unfolding(crate::specs::OpWords::sys_op))]
 fn sys(text: &[u8]) -> Option<Op>
-    ensures { result ≡ sys_op (words_of text.now) }
+    ensures value { result ≡ sys_op (words_of text.now) }
+    ensures sized { IfSome result IsSized }
 {
     let (v, rest) = pick(text)?;
     let (zone, rest) = zone_name(rest)?;
@@ -77,7 +84,8 @@ fn sys(text: &[u8]) -> Option<Op>
 
 #[tactic(auto, unfolding(crate::specs::OpWords::scan_op))]
 fn scan(text: &[u8]) -> Option<Op>
-    ensures { result ≡ scan_op (words_of text.now) }
+    ensures value { result ≡ scan_op (words_of text.now) }
+    ensures sized { IfSome result IsSized }
 {
     let (v, rest) = pick(text)?;
     let (zone, rest) = zone_name(rest)?;
@@ -96,7 +104,8 @@ fn scan(text: &[u8]) -> Option<Op>
 
 #[tactic(auto, unfolding(crate::specs::OpWords::clock_op))]
 fn clock(text: &[u8]) -> Option<Op>
-    ensures { result ≡ clock_op (words_of text.now) }
+    ensures value { result ≡ clock_op (words_of text.now) }
+    ensures sized { IfSome result IsSized }
 {
     let (v, rest) = pick(text)?;
     let (conv, rest) = conversion(rest)?;
@@ -106,7 +115,8 @@ fn clock(text: &[u8]) -> Option<Op>
 
 #[tactic(auto, unfolding(crate::specs::OpWords::reload_op))]
 fn reload(text: &[u8]) -> Option<Op>
-    ensures { result ≡ reload_op (words_of text.now) }
+    ensures value { result ≡ reload_op (words_of text.now) }
+    ensures sized { IfSome result IsSized }
 {
     let (src, rest) = counted(text, 0, 63)?;
     ends(Op::Reload { src }, rest)
@@ -114,7 +124,8 @@ fn reload(text: &[u8]) -> Option<Op>
 
 #[tactic(auto, unfolding(crate::specs::OpWords::erase_op))]
 fn erase(text: &[u8]) -> Option<Op>
-    ensures { result ≡ erase_op (words_of text.now) }
+    ensures value { result ≡ erase_op (words_of text.now) }
+    ensures sized { IfSome result IsSized }
 {
     let (v, rest) = pick(text)?;
     ends(Op::Erase { v }, rest)
@@ -122,7 +133,8 @@ fn erase(text: &[u8]) -> Option<Op>
 
 /// The operation of a keyword, by the words of its operands.
 pub fn op(keyword: Keyword, text: &[u8]) -> Option<Op>
-    ensures { result ≡ op_of keyword (words_of text.now) }
+    ensures value { result ≡ op_of keyword (words_of text.now) }
+    ensures sized { IfSome result IsSized }
 {
     match keyword {
         Keyword::Look => ends(Op::Look, text),

@@ -1,12 +1,16 @@
 //! The operands of operations, each read from the next word of a line.
 ghost use Rattle.std.specs.Prelude.{◌≡◌, IfSome, option_map};
 ghost use Rattle.std.specs.Int.{IsInRange};
+ghost use Rattle.jiff_core.specs.Calendar.{IsWithin};
 ghost use Rattle.tz_text.specs.LocalTime.{local_time_of};
+ghost use Rattle.tz_script.specs.Limit.{most_lanes};
+ghost use Rattle.tz_script.specs.Size.{most_signed};
 ghost use Rattle.tz_script.specs.Words.{words_of};
 ghost use Rattle.tz_script.specs.Operand.{hold_name_of, pick_of, zone_name_of, signed_of, counted_of, choice_of, conversion_of, lane_count_of};
 ghost use Rattle.tz_script.specs.FirstWord.{first};
 
 use crate::hold_name::{HoldName, is_front};
+use crate::limit::MOST_LANES;
 use crate::operation::Pick;
 use crate::words::{is_exactly, next_word};
 use tz_output::Conversion;
@@ -86,11 +90,11 @@ fn conversion_of(word: &[u8]) -> Option<Conversion>
 /// How many lanes there are: 1 to 16, without leading zeros.
 pub fn lane_count_of(word: &[u8]) -> Option<u32>
     ensures value { result ≡ lane_count_of word.now }
-    ensures bound { IfSome result (IsInRange 1 16) }
+    ensures bound { IfSome result (IsInRange 1 most_lanes) }
 {
     match word {
         [b'0', ..] => None,
-        _ => counted_of(word, 1, 16),
+        _ => counted_of(word, 1, MOST_LANES),
     }
 }
 
@@ -120,7 +124,8 @@ pub fn zone_name(text: &[u8]) -> Option<(Label, &[u8])>
 
 /// An instant or a count: an optional `-` and at most 15 digits; and what follows it.
 pub fn signed(text: &[u8]) -> Option<(i64, &[u8])>
-    ensures { option_map (λ cut. (cut.0, words_of cut.1.now)) result ≡ first signed_of (words_of text.now) }
+    ensures value { option_map (λ cut. (cut.0, words_of cut.1.now)) result ≡ first signed_of (words_of text.now) }
+    ensures bound { IfSome result (λ cut. IsWithin most_signed cut.0) }
 {
     let (word, rest) = next_word(text)?;
     Some((signed_number(word)?, rest))
@@ -136,7 +141,8 @@ pub fn local(text: &[u8]) -> Option<(i64, &[u8])>
 
 /// A number of at most 10 digits, from a number to another, and what follows it.
 pub fn counted(text: &[u8], low: u32, high: u32) -> Option<(u32, &[u8])>
-    ensures { option_map (λ cut. (cut.0, words_of cut.1.now)) result ≡ first (counted_of low high) (words_of text.now) }
+    ensures value { option_map (λ cut. (cut.0, words_of cut.1.now)) result ≡ first (counted_of low high) (words_of text.now) }
+    ensures bound { IfSome result (λ cut. IsInRange low high cut.0) }
 {
     let (word, rest) = next_word(text)?;
     Some((counted_of(word, low, high)?, rest))

@@ -5,6 +5,7 @@ ghost use Rattle.tz_script.specs.Cause.{fault_at};
 ghost use Rattle.tz_script.specs.Contents.{no_contents};
 ghost use Rattle.tz_script.specs.Gathered.{contents_gathered};
 ghost use Rattle.tz_script.specs.Inside.{are_before};
+ghost use Rattle.tz_script.specs.Keeping.{KeepsHolds, KeepsSources};
 ghost use Rattle.tz_script.specs.Script.{contents_after, are_blank, blank_fault, contents_of, ReadsScript};
 ghost use Rattle.tz_script.specs.Tells.{MeansFault, MeansWholeFault, IsScriptOf, MeansRefusal};
 
@@ -133,22 +134,8 @@ fn script_of(gathered: Gathered) -> Result<Script, ScriptError>
     })
 }
 
-/// The script of a text of at most 4,194,304 bytes, where there are so many texts to reload.
-///
-/// Words are separated by spaces, tabs and carriage returns, `#` begins a comment, and blank lines say nothing. The first line
-/// that isn't blank is `lanes N`, N from 1 to 16. Each later line is `round`, which begins a round, or `LANE OP` and the
-/// operands of the operation: `look`, `hold H`, `drop H`, `info V ZONE T`, `local V ZONE L`, `sys V ZONE L CHOICE`,
-/// `scan V ZONE FROM STEP COUNT`, `clock V CONV X`, `reload SRC`, `erase V` and `list`. V is `front` or the name of a hold.
-/// Holds belong to their lane and round.
-///
-/// A text is refused at the first line that has one of these causes, with its least: 1 it is longer than 512 bytes with its
-/// newline, or has before its comment a byte that is neither visible ASCII nor white, 2 it is no operation, or stands before
-/// the first round, 3 its operands aren't those of the operation, 4 a hold of the name is open, 5 none is, 7 seven are, 8 it
-/// isn't `lanes N`, or names no lane, 9 there is no such text, 10 it is the 65,537th operation, the 1,025th round or the
-/// 4,097th reload or erasure. Where no line has one of these, it is refused at the first line whose hold isn't dropped in its
-/// round, with cause 6. A text without a word has cause 8 at line 1, unless that line has cause 1. `NoMemory` comes where
-/// memory runs out.
-pub fn read_script(alloc: Global, text: &[u8], sources: u32) -> Result<Script, ScriptError>
+/// The script of a text, or its fault.
+fn read_whole(alloc: Global, text: &[u8], sources: u32) -> Result<Script, ScriptError>
     requires { length text.now ≤ 4_194_304 }
     ensures ok { IfOk result (λ script. ReadsScript sources text.now script) }
     ensures refused { IfErr result (λ e. MeansRefusal e sources text.now) }
@@ -158,4 +145,32 @@ pub fn read_script(alloc: Global, text: &[u8], sources: u32) -> Result<Script, S
         Err(error) => return Err(error),
     };
     script_of(gathered)
+}
+
+/// The script of a text of at most 4,194,304 bytes, where there are so many texts to reload.
+///
+/// Words are separated by spaces, tabs and carriage returns, `#` begins a comment, and blank lines say nothing. The
+/// first line that isn't blank is `lanes N`, N from 1 to 16. Each later line is `round`, which begins a round, or
+/// `LANE OP` and the operands of the operation: `look`, `hold H`, `drop H`, `info V ZONE T`, `local V ZONE L`,
+/// `sys V ZONE L CHOICE`, `scan V ZONE FROM STEP COUNT`, `clock V CONV X`, `reload SRC`, `erase V` and `list`. V is
+/// `front` or the name of a hold. Holds belong to their lane and round.
+///
+/// A text is refused at the first line that has one of these causes, with its least: 1 it is longer than 512 bytes with
+/// its newline, or has before its comment a byte that is neither visible ASCII nor white, 2 it is no operation, or
+/// stands before the first round, 3 its operands aren't those of the operation, 4 a hold of the name is open, 5 none
+/// is, 7 seven are, 8 it isn't `lanes N`, or names no lane, 9 there is no such text, 10 it is the 65,537th operation,
+/// the 1,025th round or the 4,097th reload or erasure. Where no line has one of these, it is refused at the first line
+/// whose hold isn't dropped in its round, with cause 6. A text without a word has cause 8 at line 1, unless that line
+/// has cause 1. `NoMemory` comes where memory runs out.
+pub fn read_script(alloc: Global, text: &[u8], sources: u32) -> Result<Script, ScriptError>
+    requires { length text.now ≤ 4_194_304 }
+    ensures ok { IfOk result (λ script. ReadsScript sources text.now script) }
+    ensures holds { IfOk result (λ script. KeepsHolds script.operations) }
+    ensures sources { IfOk result (λ script. KeepsSources sources script.operations) }
+    ensures refused { IfErr result (λ e. MeansRefusal e sources text.now) }
+{
+    match read_whole(alloc, text, sources) {
+        Ok(script) => Ok(script),
+        Err(error) => Err(error),
+    }
 }

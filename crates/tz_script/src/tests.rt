@@ -196,6 +196,28 @@ fn keeps_the_limits(rt: HostRuntime) -> Result<(), Fail> {
     Ok(())
 }
 
+#[test]
+fn keeps_what_is_just_allowed(rt: HostRuntime) -> Result<(), Fail> {
+    reads(
+        &rt,
+        rt.alloc(),
+        b"lanes 16\nround\n16 look\n1 hold a\n1 hold b\n1 hold c\n1 hold d\n1 hold e\n1 hold f\n1 hold abcdefGHIJ012345\n2 hold a\n1 drop a\n1 hold a\n1 drop b\n1 drop c\n1 drop d\n1 drop e\n1 drop f\n1 drop abcdefGHIJ012345\n1 drop a\n2 drop a\n",
+        16,
+        1,
+        19,
+    );
+    refuses(&rt, rt.alloc(), b"lanes 16\nround\n17 look\n", 3, 8);
+    let mut zone = repeated(rt.alloc(), b"lanes 1\nround\n1 info front ", b"Z", 255)?;
+    zone.extend_from_slice(b" 0")?;
+    reads(&rt, rt.alloc(), zone.as_slice(), 1, 1, 1);
+    let mut zone = repeated(rt.alloc(), b"lanes 1\nround\n1 info front ", b"Z", 256)?;
+    zone.extend_from_slice(b" 0")?;
+    refuses(&rt, rt.alloc(), zone.as_slice(), 3, 3);
+    let operations = repeated(rt.alloc(), b"lanes 1\nround\n", b"1 list\n", 65_536)?;
+    reads(&rt, rt.alloc(), operations.as_slice(), 1, 1, 65_536);
+    Ok(())
+}
+
 /// A script with every operation.
 const EVERY: &[u8] = b"# every operation
 lanes 2

@@ -4,6 +4,8 @@ ghost use Rattle.std.specs.List.{list_all, position};
 ghost use Rattle.tz_specs.specs.Value.{is_exactly};
 ghost use Rattle.tz_script.specs.Words.{is_space, is_hash, is_plain, before_comment, words_of, is_bad_line};
 
+use crate::limit::LONGEST_LINE;
+
 /// Whether the word has exactly these bytes.
 pub fn is_exactly(word: &[u8], bytes: &[u8]) -> bool
     ensures { result ≡ is_exactly word.now bytes.now }
@@ -71,5 +73,5 @@ fn are_plain(bytes: &[u8]) -> bool
 pub fn is_bad_line(line: &[u8]) -> bool
     ensures { result ≡ is_bad_line line.now }
 {
-    line.len() + 1 > 512 || !are_plain(before_comment(line))
+    line.len() + 1 > LONGEST_LINE || !are_plain(before_comment(line))
 }

@@ -8,4 +8,5 @@ returns-in-None-clause-may c = (
   omega (arith, c.in-Ok.ensures.begun),
   rw c.requires c.in-Some.ensures.bound,
   not_late c.args.sources (contents_gathered c.args.gathered.now) c.in-Some.lane c.in-Ok.op (sym c.in-None.ensures),
+  c.in-Ok.ensures.sized,
 )

@@ -1,8 +1,8 @@
-use Rattle.std.proofs.Common.{◌≡◌, ◌+◌, ◌-◌, Some, None, length, take, drop, not, sym, ap, ◌∙◌}
+use Rattle.std.proofs.Common.{◌≡◌, Some, None, drop, sym}
 use Rattle.std.specs.List.{position}
 use Rattle.std.proofs.lemmas.List.{take_rest}
 use Rattle.std.proofs.Math.Numerals.{add-one}
-use Rattle.tz_script.specs.Words.{is_space, words_of}
+use Rattle.tz_script.specs.Words.{is_space}
 use Rattle.tz_script.proofs.WordCuts.{is_of_word, nowhere, only_spaces, word_cut, word_last, words_none, nothing_behind}
 use Rattle.tz_script.proofs.words.next_word.Goals as goal
 

@@ -10,4 +10,5 @@ invariant_of-self c =
       few_changes = before.few_changes;
       counted = before.counted;
       sound = sound_round before.lanes before.rounds before.operations before.sound;
+      sized = before.sized;
     }

@@ -1,4 +1,4 @@
-use Rattle.std.proofs.Common.{◌≡◌, true, false, refl, sym, ◌∙◌}
+use Rattle.std.proofs.Common.{◌≡◌, true, false, refl}
 use Rattle.std.specs.List.{list_all}
 use Rattle.tz_types.specs.Text.{IsText}
 use Rattle.tz_script.specs.HoldName.{is_letter_or_digit, is_hold_name}
