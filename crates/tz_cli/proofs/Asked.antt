@@ -1,5 +1,5 @@
 -- What a dump is asked for, and whether it is there.
-use Rattle.std.proofs.Common.{◌≡◌, ℕ, ◌+◌, ◌<◌, ◌≤◌, inl, inr, List, [], ◌∷◌, length, get_or, take, drop, slice_get, Option, Some, None, ℤ, IsTrue, refl, sym, ap, ◌∙◌, length-drop, add-zero, arith}
+use Rattle.std.proofs.Common.{◌≡◌, ℕ, ◌+◌, ◌<◌, inl, inr, List, [], ◌∷◌, length, get_or, take, drop, Option, Some, None, ℤ, refl, sym, ◌∙◌, length-drop, add-zero, arith}
 use Rattle.std.proofs.lemmas.Option.{slice_get_cases, get_or_from_slice_get}
 use Rattle.std.proofs.lemmas.List.{take_more, get_or-drop}
 use Rattle.tz_types.specs.declared.zone.Zone.{Zone}
@@ -7,7 +7,7 @@ use Rattle.tz_types.specs.declared.source.Source.{Source}
 use Rattle.tz_types.specs.declared.database.Db.{Db}
 use Rattle.tz_specs.specs.Reads.{Reads}
 use Rattle.tz_lines.specs.Locate.{located}
-use Rattle.tz_cli.specs.Dump.{AreAskedFor, IsThere, IsMissing, IsDumped, IsOutOfDump, IsDump, dump_text}
+use Rattle.tz_cli.specs.Dump.{AreAskedFor, IsThere, IsMissing, IsDumped, IsOutOfDump}
 
 -- the one zone at a place
 pub one_asked : (db : Db) (name : List ℕ) (place : ℕ) → located db name ≡ Some place → place < length db.zones → AreAskedFor db (Some name) (take 1 (drop place db.zones))

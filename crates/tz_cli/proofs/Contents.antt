@@ -6,7 +6,7 @@ use Rattle.std.proofs.lemmas.List.Sums.{sum_by_push, sum_by-append, sum_by-cons}
 use Rattle.tz_types.specs.Limit.{most_bytes}
 use Rattle.tz_types.specs.Source.{bytes_together}
 use Rattle.tz_io.specs.Files.{IsFront}
-use Rattle.tz_cli.specs.Outcome.{FileContents, Holds, MayRead, MayReadAll, ReadsUpTo, FailsToRead, ReadsTooMuch}
+use Rattle.tz_cli.specs.Outcome.{FileContents, Holds, MayRead, MayReadAll, FailsToRead, ReadsTooMuch}
 use Rattle.tz_cli.specs.Refusal.{RefusesFile, RefusesContents}
 use Rattle.tz_cli.specs.declared.refusal.Refusal.{Refusal}
 use Rattle.tz_cli.specs.declared.refusal.Refusal.TheVariants as refusals

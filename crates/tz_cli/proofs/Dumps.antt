@@ -1,12 +1,11 @@
 -- How the text of a dump grows by one more line, zone or group.
-use Rattle.std.proofs.Common.{◌≡◌, ℕ, zero, suc, ◌+◌, ◌<◌, ◌⊎◌, List, [], ◌∷◌, ◌++◌, length, get_or, take, drop, min, slice_get, Option, Some, None, ℤ, refl, sym, ap, ◌∙◌, append_assoc, length-append, length-drop, zero-add, take-append-drop, inl, inr, arith}
+use Rattle.std.proofs.Common.{◌≡◌, ℕ, zero, suc, ◌+◌, ◌<◌, List, [], ◌∷◌, ◌++◌, length, get_or, take, drop, slice_get, Option, Some, None, ℤ, refl, sym, ap, ◌∙◌, append_assoc, length-append, length-drop, zero-add, take-append-drop, inl, inr, arith}
 use Rattle.std.specs.List.{flat_map, AllZip}
 use Rattle.std.proofs.lemmas.Option.{slice_get_cases, get_or_from_slice_get}
 use Rattle.std.proofs.lemmas.List.{append-nil, get_or-drop, take_more, take-append-le}
 use Rattle.tz_types.specs.declared.range.SysInfo.{SysInfo}
 use Rattle.tz_types.specs.declared.zone.Zone.{Zone}
 use Rattle.tz_types.specs.declared.database.Db.{Db}
-use Rattle.tz_specs.specs.Expansion.{Period, full_expansion}
 use Rattle.tz_io.specs.Sink.{Appends, AppendsPart}
 use Rattle.tz_expand.specs.declared.compiled_zone.CompiledZone.{CompiledZone}
 use Rattle.tz_expand.specs.Zone.{IsCompiled}

@@ -1,5 +1,5 @@
 -- How `info` answers by the range that holds an instant.
-use Rattle.std.proofs.Common.{◌≡◌, ℕ, List, Option, Some, None, IsSome, ◌↔◌, is_some, false, IfOk, IfErr, Result, Ok, Err, Vec, refl, sym, ap, ◌∙◌, ℤ}
+use Rattle.std.proofs.Common.{◌≡◌, ℕ, List, Option, None, IsSome, ◌↔◌, is_some, false, IfOk, IfErr, Result, Ok, Err, Vec, refl, sym, ap, ◌∙◌, ℤ}
 use Rattle.std.specs.declared.alloc.Global.{Global}
 use Rattle.tz_types.specs.declared.range.SysInfo.{SysInfo}
 use Rattle.tz_types.specs.declared.source.Source.{Source}

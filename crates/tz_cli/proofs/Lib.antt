@@ -5,6 +5,7 @@ pub mod Parts
 pub mod Contents
 pub mod ClockLine
 pub mod Asked
+pub mod ZoneAnswer
 pub mod Once
 pub mod Due
 pub mod Dumps

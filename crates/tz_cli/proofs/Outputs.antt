@@ -1,5 +1,5 @@
 -- What a command prints is due at its status.
-use Rattle.std.proofs.Common.{◌≡◌, ℕ, ◌⊎◌, inl, inr, false, List, ◌++◌, take, codes, Option, IsTrue, Result, Ok, Err, Vec, refl}
+use Rattle.std.proofs.Common.{◌≡◌, ℕ, ◌⊎◌, inl, inr, List, ◌++◌, take, codes, Option, IsTrue, Result, Ok, Err, Vec, refl}
 use Rattle.std.specs.declared.alloc.Global.{Global}
 use Rattle.tz_io.specs.Sink.{Appends, AppendsPart}
 use Rattle.tz_types.specs.declared.source.Source.{Source}

@@ -1,10 +1,10 @@
 -- How a word falls into its parts.
-use Rattle.std.proofs.Common.{◌≡◌, ◌≢◌, ℕ, ◌+◌, ◌<◌, ◌≤◌, ◌==◌, nat_le, Bool, true, false, not, ◌&&◌, List, [], ◌∷◌, ◌++◌, length, get_or, Option, if◌then◌else◌, Some, None, refl, sym, ap, ◌∙◌, arith}
+use Rattle.std.proofs.Common.{◌≡◌, ◌≢◌, ℕ, ◌+◌, ◌<◌, ◌≤◌, ◌==◌, nat_le, true, false, List, [], ◌∷◌, ◌++◌, length, get_or, Option, if◌then◌else◌, Some, None, refl, ap, arith}
 use Rattle.std.proofs.lemmas.Bool.Decides.{nat_tests}
 use Rattle.std.proofs.lemmas.Grind.{common_steps}
 use Rattle.std.specs.Borrow.{Bor}
-use Rattle.tz_specs.specs.Parts.{parts_at, onto_part}
-use Rattle.tz_cli.specs.NamedText.{parts_of, parts_left, are_names, are_file_names, text_with_names, named_text_of}
+use Rattle.tz_specs.specs.Parts.{onto_part}
+use Rattle.tz_cli.specs.NamedText.{parts_of, are_names, are_file_names, text_with_names, named_text_of}
 
 -- the bytes of names that are left, and a comma before them
 abbrev pub bytes_left : Option (Bor (List ℕ)) → ℕ

@@ -1,5 +1,5 @@
 -- Commands, and the words of a command line that stand for them.
-use Rattle.std.specs.Prelude.{◌≡◌, ℕ, nat_eq, List, [], ◌∷◌, codes, ℤ, Option, Some, option_map, if◌then◌else◌, String, string_bytes, map}
+use Rattle.std.specs.Prelude.{◌≡◌, ℕ, nat_eq, List, [], ◌∷◌, codes, ℤ, Some, option_map, if◌then◌else◌, String, string_bytes, map}
 use Rattle.std.specs.Cmp.Lexicographic.{pointwise}
 use Rattle.std.specs.declared.alloc.Global.{Global}
 use Rattle.tz_specs.specs.Number.{signed_number_of}
@@ -18,11 +18,13 @@ abbrev pub words_of : List (String Global) → List (List ℕ)
 words_of words = map string_bytes words
 
 -- A command: `info` with the text named, a zone's name and an instant; `local` with the text named, a zone's name, a local
--- time and a choice; `dump` with the text named, the two ends of a stretch and the word for a zone or for all; `check` with
--- the text named; `clock` with the file of a leap text, a conversion and a number.
+-- time and a choice; `moves` with the text named, a zone's name and the two ends of a stretch; `dump` with the text named, the
+-- two ends of a stretch and the word for a zone or for all; `check` with the text named; `clock` with the file of a leap text,
+-- a conversion and a number.
 pub data Command : Type 0 where
   Info : NamedText → List ℕ → ℤ → Command
   Local : NamedText → List ℕ → ℤ → Choice → Command
+  Moves : NamedText → List ℕ → ℤ → ℤ → Command
   Dump : NamedText → ℤ → ℤ → List ℕ → Command
   Check : NamedText → Command
   Clock : List ℕ → Conversion → ℤ → Command
@@ -42,6 +44,16 @@ pub record IsLocalCommand (words : List (List ℕ)) (text : NamedText) (zone : L
   pub words_are : words ≡ codes "local" ∷ word ∷ zone ∷ time ∷ choice_word choice ∷ []
   pub text_is : named_text_of word ≡ Some text
   pub time_is : local_time_of time ≡ Some l
+
+-- The words are `moves TEXT ZONE FROM TO`.
+pub record IsMovesCommand (words : List (List ℕ)) (text : NamedText) (zone : List ℕ) (from to : ℤ) : Type 0 where
+  pub word : List ℕ
+  pub first : List ℕ
+  pub last : List ℕ
+  pub words_are : words ≡ codes "moves" ∷ word ∷ zone ∷ first ∷ last ∷ []
+  pub text_is : named_text_of word ≡ Some text
+  pub first_is : signed_number_of 1 15 first ≡ Some from
+  pub last_is : signed_number_of 1 15 last ≡ Some to
 
 -- The words are `dump TEXT FROM TO ZONE`.
 pub record IsDumpCommand (words : List (List ℕ)) (text : NamedText) (from to : ℤ) (zone : List ℕ) : Type 0 where
@@ -69,6 +81,7 @@ pub record IsClock (words : List (List ℕ)) (leaps : List ℕ) (conversion : Co
 abbrev pub IsCommand : List (List ℕ) → Command → Type 0
 IsCommand words (Info text zone instant) = IsInfo words text zone instant
 IsCommand words (Local text zone l choice) = IsLocalCommand words text zone l choice
+IsCommand words (Moves text zone from to) = IsMovesCommand words text zone from to
 IsCommand words (Dump text from to zone) = IsDumpCommand words text from to zone
 IsCommand words (Check text) = IsCheck words text
 IsCommand words (Clock leaps conversion count) = IsClock words leaps conversion count
@@ -82,6 +95,7 @@ IsNoCommand words = (command : Command) → ¬ (IsCommand words command)
 abbrev pub files_of : Command → List (List ℕ)
 files_of (Info text zone instant) = text.files
 files_of (Local text zone l choice) = text.files
+files_of (Moves text zone from to) = text.files
 files_of (Dump text from to zone) = text.files
 files_of (Check text) = text.files
 files_of (Clock leaps conversion count) = if pointwise nat_eq leaps (codes "-") then [] else leaps ∷ []
@@ -94,6 +108,7 @@ named word = record { version = option_map (λ version. version.now) word.versio
 abbrev pub meant : CommandLine → Command
 meant (lines.Info text zone instant) = Info (named text) zone.now instant
 meant (lines.Local text zone l choice) = Local (named text) zone.now l choice
+meant (lines.Moves text zone from to) = Moves (named text) zone.now from to
 meant (lines.Dump text from to zone) = Dump (named text) from to zone.now
 meant (lines.Check text) = Check (named text)
 meant (lines.Clock leaps conversion count) = Clock leaps.now conversion count

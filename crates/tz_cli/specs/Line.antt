@@ -8,7 +8,8 @@ use Rattle.tz_types.specs.declared.fault.Fault.{Fault}
 use Rattle.tz_types.specs.declared.leap_info.LeapInfo.{LeapInfo}
 use Rattle.tz_types.specs.declared.rule_set.RuleSet.{RuleSet}
 use Rattle.tz_types.specs.declared.database.Db.{Db}
-use Rattle.tz_output.specs.Range.{range_text}
+use Rattle.tz_moves.specs.declared.moves.Move.{Move}
+use Rattle.tz_output.specs.Range.{range_text, spaced, shown}
 use Rattle.tz_output.specs.LocalInfo.{local_text}
 use Rattle.tz_output.specs.LeapInfo.{leap_text}
 
@@ -23,6 +24,11 @@ local_line info = local_text info ++ codes "\n"
 -- `sys T`: the instant of a local time
 abbrev pub sys_line : ℤ → List ℕ
 sys_line instant = codes "sys " ++ signed_decimal instant ++ codes "\n"
+
+-- a move: `AT OFFSET SAVE ABBREV`
+abbrev pub move_line : Move → List ℕ
+move_line change =
+    spaced change.at ++ spaced change.offset ++ spaced change.save ++ shown change.abbrev ++ codes "\n"
 
 -- a number alone
 abbrev pub number_line : ℤ → List ℕ

@@ -15,6 +15,12 @@ pub enum CommandLine<'w> {
         time: i64,
         choice: Choice,
     },
+    Moves {
+        text: TextWord<'w>,
+        zone: &'w str,
+        from: i64,
+        to: i64,
+    },
     Dump {
         text: TextWord<'w>,
         from: i64,

@@ -14,6 +14,7 @@ mod dump;
 mod info;
 mod line;
 mod local;
+mod moves;
 mod named_zone;
 mod output;
 mod printing;

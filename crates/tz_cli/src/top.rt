@@ -15,6 +15,7 @@ use crate::clock::clock;
 use crate::command_line::CommandLine;
 use crate::info::info;
 use crate::local::local;
+use crate::moves::moves;
 use crate::output::{Output, print_output};
 use crate::printing::{print, print_refusal};
 use crate::reading::contents_of;
@@ -60,6 +61,12 @@ fn answer_over(
             time,
             choice,
         } => local(alloc, &text.source(contents), zone.as_bytes(), time, choice),
+        CommandLine::Moves {
+            text,
+            zone,
+            from,
+            to,
+        } => line(moves(alloc, &text.source(contents), zone.as_bytes(), from, to)),
         CommandLine::Dump {
             text,
             from,
@@ -129,7 +136,7 @@ fn run_command<F: Files, S: Sink>(
     }
 }
 
-/// Does a whole command, `info`, `local`, `dump`, `check` or `clock`, and answers its status. It prints the text of the command
+/// Does a whole command, `info`, `local`, `moves`, `dump`, `check` or `clock`, and answers its status. It prints the text of the command
 /// at `Ok`, what there is to know of the local time at `Local`, and else the line of the refusal. At `Write` a part of that was
 /// taken. `dump` prints what it has made before it makes the rest, so where memory runs out on the way its line stands behind a
 /// first part of the text.

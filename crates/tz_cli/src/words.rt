@@ -1,5 +1,5 @@
 ghost use Rattle.std.specs.Prelude.{ℕ, List, ℤ, IsNone, IfSome};
-ghost use Rattle.tz_cli.specs.Command.{IsInfo, IsLocalCommand, IsDumpCommand, IsCheck, IsClock, IsCommand, IsNoCommand, words_of, meant};
+ghost use Rattle.tz_cli.specs.Command.{IsInfo, IsLocalCommand, IsMovesCommand, IsDumpCommand, IsCheck, IsClock, IsCommand, IsNoCommand, words_of, meant};
 ghost use Rattle.tz_cli.specs.NamedText.{NamedText};
 ghost use Rattle.tz_output.specs.declared.choice.Choice.{Choice};
 ghost use Rattle.tz_output.specs.declared.conversion.Conversion.{Conversion};
@@ -57,6 +57,36 @@ fn local(words: &[String]) -> Option<CommandLine<'_>>
                     zone: zone.as_str(),
                     time,
                     choice,
+                }),
+                None => None,
+            }
+        }
+        _ => None,
+    }
+}
+
+/// `moves TEXT ZONE FROM TO`.
+fn moves(words: &[String]) -> Option<CommandLine<'_>>
+    ensures some { IfSome result (λ command. IsCommand (words_of words.now) (meant command)) }
+    ensures none { IsNone result → (text : NamedText) (zone : List ℕ) (from to : ℤ) → ¬ (IsMovesCommand (words_of words.now) text zone from to) }
+{
+    match words {
+        [keyword, text, zone, first, last] => {
+            if keyword.as_str() != "moves" {
+                return None;
+            }
+            let Some(text) = TextWord::new(text.as_str()) else {
+                return None;
+            };
+            let Some(from) = signed_number(first.as_bytes()) else {
+                return None;
+            };
+            match signed_number(last.as_bytes()) {
+                Some(to) => Some(CommandLine::Moves {
+                    text,
+                    zone: zone.as_str(),
+                    from,
+                    to,
                 }),
                 None => None,
             }
@@ -149,6 +179,9 @@ pub fn command_of(words: &[String]) -> Option<CommandLine<'_>>
         return Some(command);
     }
     if let Some(command) = local(words) {
+        return Some(command);
+    }
+    if let Some(command) = moves(words) {
         return Some(command);
     }
     if let Some(command) = dump(words) {

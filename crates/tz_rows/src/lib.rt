@@ -8,6 +8,8 @@ mod links;
 #[cfg(test)]
 mod locals;
 #[cfg(test)]
+mod moves;
+#[cfg(test)]
 mod outside;
 #[cfg(test)]
 mod real_texts;

@@ -1,4 +1,4 @@
-use Rattle.std.proofs.Common.{◌≡◌, ℕ, ◌∷◌, ◌++◌, ◌+◌, ◌-◌, List, [], length, sym, ap, ◌∙◌, subst, arith, rules}
+use Rattle.std.proofs.Common.{◌≡◌, ℕ, ◌∷◌, ◌++◌, ◌-◌, [], ◌∙◌, subst, arith, rules}
 use Rattle.tz_io.specs.Counts.{Rose}
 use Rattle.tz_cli.specs.NamedText.{parts_of, parts_left}
 use Rattle.tz_cli.specs.Outcome.{Failed, MayRead}

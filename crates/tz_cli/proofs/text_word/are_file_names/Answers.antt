@@ -1,4 +1,4 @@
-use Rattle.std.proofs.Common.{◌≡◌, ◌+◌, ◌≤◌, true, None, [], length, option_map, refl, sym, ◌∙◌, ap, arith, rules}
+use Rattle.std.proofs.Common.{◌≡◌, ◌+◌, true, None, [], length, sym, ap, arith, rules}
 use Rattle.tz_cli.specs.NamedText.{parts_of, parts_left, are_names}
 use Rattle.tz_cli.proofs.Parts.{some_part, fit_names}
 use Rattle.tz_cli.proofs.text_word.are_file_names.Goals as goal

@@ -1,11 +1,11 @@
 use Rattle.std.proofs.Common.{◌≡◌, length, Ok, Err, ap, ◌∙◌, rules, FitsSigned, arith}
 use Rattle.std.specs.Int.{w64}
-use Rattle.std.specs.List.{concat}
 use Rattle.std.proofs.lemmas.Int.{to_z-of_z}
 use Rattle.tz_types.specs.Source.{bytes_together}
 use Rattle.tz_cli.specs.Command.{named}
 use Rattle.tz_cli.specs.Info.{InfoAnswers}
 use Rattle.tz_cli.specs.Local.{LocalAnswers}
+use Rattle.tz_cli.specs.Moves.{MovesAnswers}
 use Rattle.tz_cli.specs.Dump.{DumpAnswers, asked_for}
 use Rattle.tz_cli.specs.Check.{CheckAnswers}
 use Rattle.tz_cli.specs.Output.{as_output}
@@ -25,6 +25,13 @@ returns-in-Local-clause-answers c =
     let fits : FitsSigned w64 c.in-Local.time = search rules in
     let given = simp to_z-of_z at (rw c.as_bytes-in-Local.ensures.value at c.local.ensures.answers) in
     rw c.in-Local.is (over_source (named c.in-Local.text) c.args.contents c.source-in-Local.result (λ source. LocalAnswers source c.in-Local.zone.now c.in-Local.time c.in-Local.choice) c.local.result c.source-in-Local.ensures given)
+
+pub returns-in-Moves-clause-answers : goal.returns-in-Moves-clause-answers
+returns-in-Moves-clause-answers c =
+    let from_fits : FitsSigned w64 c.in-Moves.from = search rules in
+    let to_fits : FitsSigned w64 c.in-Moves.to = search rules in
+    let given = simp to_z-of_z at (rw c.as_bytes-in-Moves.ensures.value at c.moves.ensures) in
+    rw (c.line-in-Moves.ensures, c.in-Moves.is) (over_source (named c.in-Moves.text) c.args.contents c.source-in-Moves.result (λ source. MovesAnswers source c.in-Moves.zone.now c.in-Moves.from c.in-Moves.to) (as_output c.moves.result) c.source-in-Moves.ensures (gives_line (MovesAnswers c.source-in-Moves.result c.in-Moves.zone.now c.in-Moves.from c.in-Moves.to) c.moves.result given))
 
 pub returns-in-Ok-clause-answers : goal.returns-in-Ok-clause-answers
 returns-in-Ok-clause-answers c =
