@@ -6,6 +6,7 @@ pub mod Contents
 pub mod ClockLine
 pub mod Asked
 pub mod ZoneAnswer
+pub mod DayLines
 pub mod Once
 pub mod Due
 pub mod Dumps

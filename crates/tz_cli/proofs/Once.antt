@@ -19,13 +19,14 @@ use Rattle.tz_specs.specs.LeapText.{ReadsLeaps}
 use Rattle.tz_output.specs.Choice.{choice_word}
 use Rattle.tz_output.specs.Conversion.{conversion_word}
 use Rattle.tz_cli.specs.Conversion.{IsConvertible}
-use Rattle.tz_cli.specs.Command.{Command, Info, Local, Moves, Dump, Check, Clock, IsCommand}
+use Rattle.tz_cli.specs.Command.{Command, Info, Local, Moves, Days, Dump, Check, Clock, IsCommand, day_count_of}
 use Rattle.tz_cli.specs.Info.{InfoAnswers}
 use Rattle.tz_text.specs.LocalTime.{local_time_of}
 use Rattle.tz_cli.specs.Local.{HasLocalInfo, IsLocalLine, LocalAnswers}
 use Rattle.tz_cli.specs.Moves.{AreMovesOf, MovesAnswers}
 use Rattle.tz_expand.specs.Stretch.{IsStretch}
 use Rattle.tz_expand.specs.declared.compiled_zone.CompiledZone.{CompiledZone}
+use Rattle.tz_cli.specs.Days.{AreDays, AreDaysOf, DaysAnswers}
 use Rattle.tz_cli.specs.Dump.{IsThere, IsMissing, DumpAnswers, asked_for}
 use Rattle.tz_cli.specs.Check.{CheckAnswers}
 use Rattle.tz_cli.specs.Clock.{ClockAnswers}
@@ -102,6 +103,7 @@ abbrev keyword : Command → List ℕ
 keyword (Info text zone t) = codes "info"
 keyword (Local text zone l choice) = codes "local"
 keyword (Moves text zone from to) = codes "moves"
+keyword (Days text zone first count) = codes "days"
 keyword (Dump text from to zone) = codes "dump"
 keyword (Check text) = codes "check"
 keyword (Clock leaps conversion count) = codes "clock"
@@ -110,6 +112,7 @@ begins : (words : List (List ℕ)) (command : Command) → IsCommand words comma
 begins words (Info text zone t) is = (is.word ∷ zone ∷ is.number ∷ [], is.words_are)
 begins words (Local text zone l choice) is = (is.word ∷ zone ∷ is.time ∷ choice_word choice ∷ [], is.words_are)
 begins words (Moves text zone from to) is = (is.word ∷ zone ∷ is.first ∷ is.last ∷ [], is.words_are)
+begins words (Days text zone first count) is = (is.word ∷ zone ∷ is.number ∷ is.many ∷ [], is.words_are)
 begins words (Dump text from to zone) is = (is.word ∷ is.first ∷ is.last ∷ zone ∷ [], is.words_are)
 begins words (Check text) is = (is.word ∷ [], is.words_are)
 begins words (Clock leaps conversion count) is = (leaps ∷ conversion_word conversion ∷ is.number ∷ [], is.words_are)
@@ -158,6 +161,17 @@ one_command words (Moves text zone from to) (Moves text' zone' from' to') first 
     let zones : zone ≡ zone' = cc in cc
 one_command words (Moves text zone from to) other first second =
     absurd (differ (keyword (Moves text zone from to)) (keyword other) (one_keyword words (Moves text zone from to) other first second) refl refl)
+one_command words (Days text zone day count) (Days text' zone' day' count') first second =
+    let are : codes "days" ∷ first.word ∷ zone ∷ first.number ∷ first.many ∷ [] ≡ codes "days" ∷ second.word ∷ zone' ∷ second.number ∷ second.many ∷ [] = sym first.words_are ∙ second.words_are in
+    let number : first.number ≡ second.number = cc in
+    let many : first.many ≡ second.many = cc in
+    let days : day ≡ day' = one_number first.number second.number day day' number first.number_is second.number_is in
+    let counts : Some count ≡ Some count' = sym first.count_is ∙ ap day_count_of many ∙ second.count_is in
+    let word : first.word ≡ second.word = cc in
+    let texts : text ≡ text' = one_text first.word second.word text text' word first.text_is second.text_is in
+    let zones : zone ≡ zone' = cc in cc
+one_command words (Days text zone day count) other first second =
+    absurd (differ (keyword (Days text zone day count)) (keyword other) (one_keyword words (Days text zone day count) other first second) refl refl)
 one_command words (Dump text from to zone) (Dump text' from' to' zone') first second =
     let are : codes "dump" ∷ first.word ∷ first.first ∷ first.last ∷ zone ∷ [] ≡ codes "dump" ∷ second.word ∷ second.first ∷ second.last ∷ zone' ∷ [] = sym first.words_are ∙ second.words_are in
     let begins : first.first ≡ second.first = cc in
@@ -290,6 +304,15 @@ moves_once : (source : Source) (name : List ℕ) (from to : ℤ) (r s : Status) 
 moves_once source name from to r s line other a b =
     zone_once source name (IsStretch from to) (AreMovesOf from to) r s line other (λ one two here there. moves_told from to one two r s line other) a b
 
+days_told : (first : ℤ) (count : ℕ) (a b : CompiledZone) (r s : Status) (line other : List ℕ) → AreDaysOf first count a r line → AreDaysOf first count b s other → r ≡ s
+days_told first count a b statuses.Ok statuses.Ok line other here there = refl
+days_told first count a b statuses.Ok s line other here there = absurd there
+days_told first count a b r s line other here there = absurd here
+
+days_once : (source : Source) (name : List ℕ) (first : ℤ) (count : ℕ) (r s : Status) (line other : List ℕ) → DaysAnswers source name first count r line → DaysAnswers source name first count s other → r ≡ s
+days_once source name first count r s line other a b =
+    zone_once source name (AreDays first count) (AreDaysOf first count) r s line other (λ one two here there. days_told first count one two r s line other) a b
+
 not_missing : (source : Source) (asked : Option (List ℕ)) (db : Db) → Reads source db → IsThere db asked → IsMissing source asked → ⊥
 not_missing source None db reads there missing = missing
 not_missing source (Some name) db reads there missing = some_not_none source name db missing.db reads missing.reads there missing.none
@@ -387,6 +410,8 @@ text_once (Local text zone l choice) contents r s line other a b =
     source_once text contents (λ source. LocalAnswers source zone l choice) r s line other (λ source. local_once source zone l choice r s line other) a b
 text_once (Moves text zone from to) contents r s line other a b =
     source_once text contents (λ source. MovesAnswers source zone from to) r s line other (λ source. moves_once source zone from to r s line other) a b
+text_once (Days text zone first count) contents r s line other a b =
+    source_once text contents (λ source. DaysAnswers source zone first count) r s line other (λ source. days_once source zone first count r s line other) a b
 text_once (Dump text from to zone) contents r s line other a b =
     source_once text contents (λ source. DumpAnswers source from to (asked_for zone)) r s line other (λ source. dump_once source from to (asked_for zone) r s line other) a b
 text_once (Check text) contents r s line other a b =

@@ -9,6 +9,7 @@ pub mod Local
 pub mod NamedZone
 pub mod ZoneAnswer
 pub mod Moves
+pub mod Days
 pub mod Dump
 pub mod Clock
 pub mod Answer

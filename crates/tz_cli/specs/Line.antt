@@ -34,6 +34,10 @@ move_line change =
 abbrev pub number_line : ℤ → List ℕ
 number_line number = signed_decimal number ++ codes "\n"
 
+-- a day and how many seconds it has: `DAY SECONDS`
+abbrev pub day_line : ℤ → ℤ → List ℕ
+day_line day seconds = spaced day ++ number_line seconds
+
 -- what there is to know of a UTC count
 abbrev pub leap_line : LeapInfo → List ℕ
 leap_line info = leap_text info ++ codes "\n"

@@ -21,6 +21,12 @@ pub enum CommandLine<'w> {
         from: i64,
         to: i64,
     },
+    Days {
+        text: TextWord<'w>,
+        zone: &'w str,
+        first: i64,
+        count: u32,
+    },
     Dump {
         text: TextWord<'w>,
         from: i64,

@@ -10,6 +10,7 @@
 mod check;
 mod clock;
 mod command_line;
+mod days;
 mod dump;
 mod info;
 mod line;

@@ -98,6 +98,7 @@ pub fn contents_of<F: Files>(
         CommandLine::Info { text, .. }
         | CommandLine::Local { text, .. }
         | CommandLine::Moves { text, .. }
+        | CommandLine::Days { text, .. }
         | CommandLine::Dump { text, .. }
         | CommandLine::Check { text } => read_files(alloc, text.names, files),
         CommandLine::Clock { leaps: "-", .. } => Ok(Items::new(alloc)),

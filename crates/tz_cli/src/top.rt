@@ -13,6 +13,7 @@ ghost use Rattle.tz_cli.specs.declared.status.Status.{Status};
 use crate::check::check;
 use crate::clock::clock;
 use crate::command_line::CommandLine;
+use crate::days::days;
 use crate::info::info;
 use crate::local::local;
 use crate::moves::moves;
@@ -67,6 +68,12 @@ fn answer_over(
             from,
             to,
         } => line(moves(alloc, &text.source(contents), zone.as_bytes(), from, to)),
+        CommandLine::Days {
+            text,
+            zone,
+            first,
+            count,
+        } => line(days(alloc, &text.source(contents), zone.as_bytes(), first, count)),
         CommandLine::Dump {
             text,
             from,
@@ -136,7 +143,7 @@ fn run_command<F: Files, S: Sink>(
     }
 }
 
-/// Does a whole command, `info`, `local`, `moves`, `dump`, `check` or `clock`, and answers its status. It prints the text of the command
+/// Does a whole command, `info`, `local`, `moves`, `days`, `dump`, `check` or `clock`, and answers its status. It prints the text of the command
 /// at `Ok`, what there is to know of the local time at `Local`, and else the line of the refusal. At `Write` a part of that was
 /// taken. `dump` prints what it has made before it makes the rest, so where memory runs out on the way its line stands behind a
 /// first part of the text.

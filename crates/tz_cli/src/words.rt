@@ -1,5 +1,5 @@
-ghost use Rattle.std.specs.Prelude.{ℕ, List, ℤ, IsNone, IfSome};
-ghost use Rattle.tz_cli.specs.Command.{IsInfo, IsLocalCommand, IsMovesCommand, IsDumpCommand, IsCheck, IsClock, IsCommand, IsNoCommand, words_of, meant};
+ghost use Rattle.std.specs.Prelude.{◌≡◌, ℕ, List, ℤ, IsNone, IfSome};
+ghost use Rattle.tz_cli.specs.Command.{IsInfo, IsLocalCommand, IsMovesCommand, IsDaysCommand, IsDumpCommand, IsCheck, IsClock, IsCommand, IsNoCommand, words_of, meant, day_count_of};
 ghost use Rattle.tz_cli.specs.NamedText.{NamedText};
 ghost use Rattle.tz_output.specs.declared.choice.Choice.{Choice};
 ghost use Rattle.tz_output.specs.declared.conversion.Conversion.{Conversion};
@@ -7,7 +7,10 @@ ghost use Rattle.tz_output.specs.declared.conversion.Conversion.{Conversion};
 use crate::command_line::CommandLine;
 use crate::text_word::TextWord;
 use tz_output::{Choice, Conversion};
-use tz_text::{local_time, signed_number};
+use tz_text::{local_time, number, signed_number};
+
+/// The most days that are asked for at once.
+const MOST_DAYS: u64 = 4_096;
 
 /// `info TEXT ZONE T`.
 fn info(words: &[String]) -> Option<CommandLine<'_>>
@@ -87,6 +90,51 @@ fn moves(words: &[String]) -> Option<CommandLine<'_>>
                     zone: zone.as_str(),
                     from,
                     to,
+                }),
+                None => None,
+            }
+        }
+        _ => None,
+    }
+}
+
+/// How many days a word asks for: one to fifteen digits, whose value is from 1 to the most.
+fn day_count(word: &[u8]) -> Option<u32>
+    ensures { result ≡ day_count_of word.now }
+{
+    match number(word, 1, 15) {
+        Some(count) => {
+            if count < 1 || count > MOST_DAYS {
+                return None;
+            }
+            Some(count as u32)
+        }
+        None => None,
+    }
+}
+
+/// `days TEXT ZONE FIRST COUNT`.
+fn days(words: &[String]) -> Option<CommandLine<'_>>
+    ensures some { IfSome result (λ command. IsCommand (words_of words.now) (meant command)) }
+    ensures none { IsNone result → (text : NamedText) (zone : List ℕ) (first : ℤ) (count : ℕ) → ¬ (IsDaysCommand (words_of words.now) text zone first count) }
+{
+    match words {
+        [keyword, text, zone, number, many] => {
+            if keyword.as_str() != "days" {
+                return None;
+            }
+            let Some(text) = TextWord::new(text.as_str()) else {
+                return None;
+            };
+            let Some(first) = signed_number(number.as_bytes()) else {
+                return None;
+            };
+            match day_count(many.as_bytes()) {
+                Some(count) => Some(CommandLine::Days {
+                    text,
+                    zone: zone.as_str(),
+                    first,
+                    count,
                 }),
                 None => None,
             }
@@ -182,6 +230,9 @@ pub fn command_of(words: &[String]) -> Option<CommandLine<'_>>
         return Some(command);
     }
     if let Some(command) = moves(words) {
+        return Some(command);
+    }
+    if let Some(command) = days(words) {
         return Some(command);
     }
     if let Some(command) = dump(words) {

@@ -2,6 +2,8 @@
 #![tactic(auto)]
 
 #[cfg(test)]
+mod days;
+#[cfg(test)]
 mod dumps;
 #[cfg(test)]
 mod links;

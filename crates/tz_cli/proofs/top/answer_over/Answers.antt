@@ -6,6 +6,7 @@ use Rattle.tz_cli.specs.Command.{named}
 use Rattle.tz_cli.specs.Info.{InfoAnswers}
 use Rattle.tz_cli.specs.Local.{LocalAnswers}
 use Rattle.tz_cli.specs.Moves.{MovesAnswers}
+use Rattle.tz_cli.specs.Days.{DaysAnswers}
 use Rattle.tz_cli.specs.Dump.{DumpAnswers, asked_for}
 use Rattle.tz_cli.specs.Check.{CheckAnswers}
 use Rattle.tz_cli.specs.Output.{as_output}
@@ -32,6 +33,12 @@ returns-in-Moves-clause-answers c =
     let to_fits : FitsSigned w64 c.in-Moves.to = search rules in
     let given = simp to_z-of_z at (rw c.as_bytes-in-Moves.ensures.value at c.moves.ensures) in
     rw (c.line-in-Moves.ensures, c.in-Moves.is) (over_source (named c.in-Moves.text) c.args.contents c.source-in-Moves.result (λ source. MovesAnswers source c.in-Moves.zone.now c.in-Moves.from c.in-Moves.to) (as_output c.moves.result) c.source-in-Moves.ensures (gives_line (MovesAnswers c.source-in-Moves.result c.in-Moves.zone.now c.in-Moves.from c.in-Moves.to) c.moves.result given))
+
+pub returns-in-Days-clause-answers : goal.returns-in-Days-clause-answers
+returns-in-Days-clause-answers c =
+    let fits : FitsSigned w64 c.in-Days.first = search rules in
+    let given = simp to_z-of_z at (rw c.as_bytes-in-Days.ensures.value at c.days.ensures) in
+    rw (c.line-in-Days.ensures, c.in-Days.is) (over_source (named c.in-Days.text) c.args.contents c.source-in-Days.result (λ source. DaysAnswers source c.in-Days.zone.now c.in-Days.first c.in-Days.count) (as_output c.days.result) c.source-in-Days.ensures (gives_line (DaysAnswers c.source-in-Days.result c.in-Days.zone.now c.in-Days.first c.in-Days.count) c.days.result given))
 
 pub returns-in-Ok-clause-answers : goal.returns-in-Ok-clause-answers
 returns-in-Ok-clause-answers c =
