@@ -7,6 +7,7 @@ pub mod ClockLine
 pub mod Asked
 pub mod ZoneAnswer
 pub mod DayLines
+pub mod ZoneFiles
 pub mod Once
 pub mod Due
 pub mod Dumps

@@ -19,7 +19,7 @@ use Rattle.tz_specs.specs.LeapText.{ReadsLeaps}
 use Rattle.tz_output.specs.Choice.{choice_word}
 use Rattle.tz_output.specs.Conversion.{conversion_word}
 use Rattle.tz_cli.specs.Conversion.{IsConvertible}
-use Rattle.tz_cli.specs.Command.{Command, Info, Local, Moves, Days, Dump, Check, Clock, IsCommand, day_count_of}
+use Rattle.tz_cli.specs.Command.{Command, Info, Local, Moves, Days, Tzif, Dump, Check, Clock, IsCommand, day_count_of, short_year_of}
 use Rattle.tz_cli.specs.Info.{InfoAnswers}
 use Rattle.tz_text.specs.LocalTime.{local_time_of}
 use Rattle.tz_cli.specs.Local.{HasLocalInfo, IsLocalLine, LocalAnswers}
@@ -27,6 +27,7 @@ use Rattle.tz_cli.specs.Moves.{AreMovesOf, MovesAnswers}
 use Rattle.tz_expand.specs.Stretch.{IsStretch}
 use Rattle.tz_expand.specs.declared.compiled_zone.CompiledZone.{CompiledZone}
 use Rattle.tz_cli.specs.Days.{AreDays, AreDaysOf, DaysAnswers}
+use Rattle.tz_cli.specs.ZoneFile.{AreYears, IsFileOf, TzifAnswers}
 use Rattle.tz_cli.specs.Dump.{IsThere, IsMissing, DumpAnswers, asked_for}
 use Rattle.tz_cli.specs.Check.{CheckAnswers}
 use Rattle.tz_cli.specs.Clock.{ClockAnswers}
@@ -47,6 +48,7 @@ use Rattle.tz_local.proofs.InstantLemmas.{decided}
 use Rattle.tz_cli.proofs.Texts.{some_not_none}
 use Rattle.tz_cli.proofs.Asked.{asked_there}
 use Rattle.tz_cli.proofs.ZoneAnswer.{zone_once}
+use Rattle.tz_cli.proofs.ZoneFiles.{one_file}
 
 abbrev all_conversions : List Conversion
 all_conversions =
@@ -104,6 +106,7 @@ keyword (Info text zone t) = codes "info"
 keyword (Local text zone l choice) = codes "local"
 keyword (Moves text zone from to) = codes "moves"
 keyword (Days text zone first count) = codes "days"
+keyword (Tzif text zone first last) = codes "tzif"
 keyword (Dump text from to zone) = codes "dump"
 keyword (Check text) = codes "check"
 keyword (Clock leaps conversion count) = codes "clock"
@@ -113,6 +116,7 @@ begins words (Info text zone t) is = (is.word ∷ zone ∷ is.number ∷ [], is.
 begins words (Local text zone l choice) is = (is.word ∷ zone ∷ is.time ∷ choice_word choice ∷ [], is.words_are)
 begins words (Moves text zone from to) is = (is.word ∷ zone ∷ is.first ∷ is.last ∷ [], is.words_are)
 begins words (Days text zone first count) is = (is.word ∷ zone ∷ is.number ∷ is.many ∷ [], is.words_are)
+begins words (Tzif text zone first last) is = (is.word ∷ zone ∷ is.begins ∷ is.ends ∷ [], is.words_are)
 begins words (Dump text from to zone) is = (is.word ∷ is.first ∷ is.last ∷ zone ∷ [], is.words_are)
 begins words (Check text) is = (is.word ∷ [], is.words_are)
 begins words (Clock leaps conversion count) is = (leaps ∷ conversion_word conversion ∷ is.number ∷ [], is.words_are)
@@ -172,6 +176,17 @@ one_command words (Days text zone day count) (Days text' zone' day' count') firs
     let zones : zone ≡ zone' = cc in cc
 one_command words (Days text zone day count) other first second =
     absurd (differ (keyword (Days text zone day count)) (keyword other) (one_keyword words (Days text zone day count) other first second) refl refl)
+one_command words (Tzif text zone first last) (Tzif text' zone' first' last') here there =
+    let are : codes "tzif" ∷ here.word ∷ zone ∷ here.begins ∷ here.ends ∷ [] ≡ codes "tzif" ∷ there.word ∷ zone' ∷ there.begins ∷ there.ends ∷ [] = sym here.words_are ∙ there.words_are in
+    let begins : here.begins ≡ there.begins = cc in
+    let ends : here.ends ≡ there.ends = cc in
+    let firsts : Some first ≡ Some first' = sym here.first_is ∙ ap short_year_of begins ∙ there.first_is in
+    let lasts : Some last ≡ Some last' = sym here.last_is ∙ ap short_year_of ends ∙ there.last_is in
+    let word : here.word ≡ there.word = cc in
+    let texts : text ≡ text' = one_text here.word there.word text text' word here.text_is there.text_is in
+    let zones : zone ≡ zone' = cc in cc
+one_command words (Tzif text zone begins ends) other first second =
+    absurd (differ (keyword (Tzif text zone begins ends)) (keyword other) (one_keyword words (Tzif text zone begins ends) other first second) refl refl)
 one_command words (Dump text from to zone) (Dump text' from' to' zone') first second =
     let are : codes "dump" ∷ first.word ∷ first.first ∷ first.last ∷ zone ∷ [] ≡ codes "dump" ∷ second.word ∷ second.first ∷ second.last ∷ zone' ∷ [] = sym first.words_are ∙ second.words_are in
     let begins : first.first ≡ second.first = cc in
@@ -313,6 +328,10 @@ days_once : (source : Source) (name : List ℕ) (first : ℤ) (count : ℕ) (r s
 days_once source name first count r s line other a b =
     zone_once source name (AreDays first count) (AreDaysOf first count) r s line other (λ one two here there. days_told first count one two r s line other) a b
 
+tzif_once : (source : Source) (name : List ℕ) (first last : ℤ) (r s : Status) (line other : List ℕ) → TzifAnswers source name first last r line → TzifAnswers source name first last s other → r ≡ s
+tzif_once source name first last r s line other a b =
+    zone_once source name (AreYears first last) (IsFileOf first last) r s line other (λ one two here there. one_file source name first last one two r s line other here there) a b
+
 not_missing : (source : Source) (asked : Option (List ℕ)) (db : Db) → Reads source db → IsThere db asked → IsMissing source asked → ⊥
 not_missing source None db reads there missing = missing
 not_missing source (Some name) db reads there missing = some_not_none source name db missing.db reads missing.reads there missing.none
@@ -412,6 +431,8 @@ text_once (Moves text zone from to) contents r s line other a b =
     source_once text contents (λ source. MovesAnswers source zone from to) r s line other (λ source. moves_once source zone from to r s line other) a b
 text_once (Days text zone first count) contents r s line other a b =
     source_once text contents (λ source. DaysAnswers source zone first count) r s line other (λ source. days_once source zone first count r s line other) a b
+text_once (Tzif text zone first last) contents r s line other a b =
+    source_once text contents (λ source. TzifAnswers source zone first last) r s line other (λ source. tzif_once source zone first last r s line other) a b
 text_once (Dump text from to zone) contents r s line other a b =
     source_once text contents (λ source. DumpAnswers source from to (asked_for zone)) r s line other (λ source. dump_once source from to (asked_for zone) r s line other) a b
 text_once (Check text) contents r s line other a b =

@@ -21,6 +21,10 @@ zone_gives source name inside told zone (Ok text) named given =
 zone_gives source name inside told zone (Err refusals.Memory) named given = tt
 zone_gives source name inside told zone (Err refusals.Range) named given =
     (record { db = named.db; reads = named.reads; there = rw named.named refl; outside = given }, refl)
+zone_gives source name inside told zone (Err refusals.Types) named given =
+    record { zone = zone; named = named; in_range = given.0; is = given.1 }
+zone_gives source name inside told zone (Err refusals.Designations) named given =
+    record { zone = zone; named = named; in_range = given.0; is = given.1 }
 zone_gives source name inside told zone (Err refusal) named given = absurd given
 
 -- a zone that answers is there

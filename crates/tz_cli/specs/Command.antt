@@ -22,7 +22,7 @@ words_of words = map string_bytes words
 
 -- A command: `info` with the text named, a zone's name and an instant; `local` with the text named, a zone's name, a local
 -- time and a choice; `moves` with the text named, a zone's name and the two ends of a stretch; `days` with the text named, a zone's name, a day and
--- how many there are from it on; `dump` with the text named, the
+-- how many there are from it on; `tzif` with the text named, a zone's name and two years; `dump` with the text named, the
 -- two ends of a stretch and the word for a zone or for all; `check` with the text named; `clock` with the file of a leap text,
 -- a conversion and a number.
 pub data Command : Type 0 where
@@ -30,6 +30,7 @@ pub data Command : Type 0 where
   Local : NamedText → List ℕ → ℤ → Choice → Command
   Moves : NamedText → List ℕ → ℤ → ℤ → Command
   Days : NamedText → List ℕ → ℤ → ℕ → Command
+  Tzif : NamedText → List ℕ → ℤ → ℤ → Command
   Dump : NamedText → ℤ → ℤ → List ℕ → Command
   Check : NamedText → Command
   Clock : List ℕ → Conversion → ℤ → Command
@@ -78,6 +79,20 @@ pub record IsDaysCommand (words : List (List ℕ)) (text : NamedText) (zone : Li
   pub number_is : signed_number_of 1 15 number ≡ Some first
   pub count_is : day_count_of many ≡ Some count
 
+-- a year of a command: an optional `-` and 1 to 4 digits
+abbrev pub short_year_of : List ℕ → Option ℤ
+short_year_of word = signed_number_of 1 4 word
+
+-- The words are `tzif TEXT ZONE FIRST LAST`.
+pub record IsTzifCommand (words : List (List ℕ)) (text : NamedText) (zone : List ℕ) (first last : ℤ) : Type 0 where
+  pub word : List ℕ
+  pub begins : List ℕ
+  pub ends : List ℕ
+  pub words_are : words ≡ codes "tzif" ∷ word ∷ zone ∷ begins ∷ ends ∷ []
+  pub text_is : named_text_of word ≡ Some text
+  pub first_is : short_year_of begins ≡ Some first
+  pub last_is : short_year_of ends ≡ Some last
+
 -- The words are `dump TEXT FROM TO ZONE`.
 pub record IsDumpCommand (words : List (List ℕ)) (text : NamedText) (from to : ℤ) (zone : List ℕ) : Type 0 where
   pub word : List ℕ
@@ -106,6 +121,7 @@ IsCommand words (Info text zone instant) = IsInfo words text zone instant
 IsCommand words (Local text zone l choice) = IsLocalCommand words text zone l choice
 IsCommand words (Moves text zone from to) = IsMovesCommand words text zone from to
 IsCommand words (Days text zone first count) = IsDaysCommand words text zone first count
+IsCommand words (Tzif text zone first last) = IsTzifCommand words text zone first last
 IsCommand words (Dump text from to zone) = IsDumpCommand words text from to zone
 IsCommand words (Check text) = IsCheck words text
 IsCommand words (Clock leaps conversion count) = IsClock words leaps conversion count
@@ -121,6 +137,7 @@ files_of (Info text zone instant) = text.files
 files_of (Local text zone l choice) = text.files
 files_of (Moves text zone from to) = text.files
 files_of (Days text zone first count) = text.files
+files_of (Tzif text zone first last) = text.files
 files_of (Dump text from to zone) = text.files
 files_of (Check text) = text.files
 files_of (Clock leaps conversion count) = if pointwise nat_eq leaps (codes "-") then [] else leaps ∷ []
@@ -135,6 +152,7 @@ meant (lines.Info text zone instant) = Info (named text) zone.now instant
 meant (lines.Local text zone l choice) = Local (named text) zone.now l choice
 meant (lines.Moves text zone from to) = Moves (named text) zone.now from to
 meant (lines.Days text zone first count) = Days (named text) zone.now first count
+meant (lines.Tzif text zone first last) = Tzif (named text) zone.now first last
 meant (lines.Dump text from to zone) = Dump (named text) from to zone.now
 meant (lines.Check text) = Check (named text)
 meant (lines.Clock leaps conversion count) = Clock leaps.now conversion count

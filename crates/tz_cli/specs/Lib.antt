@@ -10,6 +10,7 @@ pub mod NamedZone
 pub mod ZoneAnswer
 pub mod Moves
 pub mod Days
+pub mod ZoneFile
 pub mod Dump
 pub mod Clock
 pub mod Answer

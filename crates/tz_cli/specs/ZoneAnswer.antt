@@ -38,9 +38,12 @@ ZoneAnswers source name inside told statuses.Range line =
 ZoneAnswers source name inside told status line =
     IsToldByZone source name inside (λ zone. told zone status line)
 
--- What a zone that is there answers: a text; or that what is asked isn't in range, but that memory may run out at any time.
+-- What a zone that is there answers: a text; or that what is asked isn't in range, or has no file, but that memory may run out
+-- at any time.
 abbrev pub GivesOfZone : Type 0 → (Status → List ℕ → Type 0) → Result (Vec ℕ Global) Refusal → Type 0
 GivesOfZone inside told (Ok text) = inside × told statuses.Ok text.items
 GivesOfZone inside told (Err refusals.Range) = ¬ inside
 GivesOfZone inside told (Err refusals.Memory) = Unit {0}
+GivesOfZone inside told (Err refusals.Types) = inside × told statuses.Types (codes "types\n")
+GivesOfZone inside told (Err refusals.Designations) = inside × told statuses.Designations (codes "designations\n")
 GivesOfZone inside told (Err refusal) = ⊥

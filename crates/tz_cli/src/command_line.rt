@@ -27,6 +27,12 @@ pub enum CommandLine<'w> {
         first: i64,
         count: u32,
     },
+    Tzif {
+        text: TextWord<'w>,
+        zone: &'w str,
+        first: i32,
+        last: i32,
+    },
     Dump {
         text: TextWord<'w>,
         from: i64,

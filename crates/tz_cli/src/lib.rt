@@ -25,6 +25,7 @@ mod status;
 mod text;
 mod text_word;
 mod top;
+mod tzif;
 mod words;
 mod zone_dump;
 mod zones;

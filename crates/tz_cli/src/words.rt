@@ -1,5 +1,5 @@
 ghost use Rattle.std.specs.Prelude.{◌≡◌, ℕ, List, ℤ, IsNone, IfSome};
-ghost use Rattle.tz_cli.specs.Command.{IsInfo, IsLocalCommand, IsMovesCommand, IsDaysCommand, IsDumpCommand, IsCheck, IsClock, IsCommand, IsNoCommand, words_of, meant, day_count_of};
+ghost use Rattle.tz_cli.specs.Command.{IsInfo, IsLocalCommand, IsMovesCommand, IsDaysCommand, IsTzifCommand, IsDumpCommand, IsCheck, IsClock, IsCommand, IsNoCommand, words_of, meant, day_count_of, short_year_of};
 ghost use Rattle.tz_cli.specs.NamedText.{NamedText};
 ghost use Rattle.tz_output.specs.declared.choice.Choice.{Choice};
 ghost use Rattle.tz_output.specs.declared.conversion.Conversion.{Conversion};
@@ -143,6 +143,47 @@ fn days(words: &[String]) -> Option<CommandLine<'_>>
     }
 }
 
+/// A year of a command: an optional `-` and one to four digits.
+#[tactic(auto, unfolding(tz_specs::specs::Number::signed_number_of))]
+fn short_year(word: &[u8]) -> Option<i32>
+    ensures { result ≡ short_year_of word.now }
+{
+    match word {
+        [b'-', digits @ ..] => Some(-(number(digits, 1, 4)? as i32)),
+        _ => Some(number(word, 1, 4)? as i32),
+    }
+}
+
+/// `tzif TEXT ZONE FIRST LAST`.
+fn tzif(words: &[String]) -> Option<CommandLine<'_>>
+    ensures some { IfSome result (λ command. IsCommand (words_of words.now) (meant command)) }
+    ensures none { IsNone result → (text : NamedText) (zone : List ℕ) (first last : ℤ) → ¬ (IsTzifCommand (words_of words.now) text zone first last) }
+{
+    match words {
+        [keyword, text, zone, begins, ends] => {
+            if keyword.as_str() != "tzif" {
+                return None;
+            }
+            let Some(text) = TextWord::new(text.as_str()) else {
+                return None;
+            };
+            let Some(first) = short_year(begins.as_bytes()) else {
+                return None;
+            };
+            match short_year(ends.as_bytes()) {
+                Some(last) => Some(CommandLine::Tzif {
+                    text,
+                    zone: zone.as_str(),
+                    first,
+                    last,
+                }),
+                None => None,
+            }
+        }
+        _ => None,
+    }
+}
+
 /// `dump TEXT FROM TO ZONE`.
 fn dump(words: &[String]) -> Option<CommandLine<'_>>
     ensures some { IfSome result (λ command. IsCommand (words_of words.now) (meant command)) }
@@ -233,6 +274,9 @@ pub fn command_of(words: &[String]) -> Option<CommandLine<'_>>
         return Some(command);
     }
     if let Some(command) = days(words) {
+        return Some(command);
+    }
+    if let Some(command) = tzif(words) {
         return Some(command);
     }
     if let Some(command) = dump(words) {

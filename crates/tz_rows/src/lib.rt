@@ -24,4 +24,6 @@ mod sources;
 #[cfg(test)]
 mod texts;
 #[cfg(test)]
+mod tzif;
+#[cfg(test)]
 mod zone_texts;

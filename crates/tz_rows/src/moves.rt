@@ -78,6 +78,9 @@ fn a_part_of_the_moves(rt: HostRuntime) -> Result<(), Fail> {
     let line = "moves A America/New_York 1704067200 1735689600";
     let (answer, taken) = run(&rt, rt.alloc(), &mut files, line, 64, 30)?;
     assert_eq!(rt; answer, Plain::Done(Status::Write));
-    assert_eq!(rt; taken.as_slice(), b"1710054000 -14400 3600 EDT\n173".as_slice());
+    assert_eq!(rt;
+        taken.as_slice(),
+        b"1710054000 -14400 3600 EDT\n173".as_slice()
+    );
     Ok(())
 }

@@ -1,5 +1,5 @@
 use Rattle.std.proofs.Common.{◌≡◌, length, Ok, Err, ap, ◌∙◌, rules, FitsSigned, arith}
-use Rattle.std.specs.Int.{w64}
+use Rattle.std.specs.Int.{w32, w64}
 use Rattle.std.proofs.lemmas.Int.{to_z-of_z}
 use Rattle.tz_types.specs.Source.{bytes_together}
 use Rattle.tz_cli.specs.Command.{named}
@@ -7,6 +7,7 @@ use Rattle.tz_cli.specs.Info.{InfoAnswers}
 use Rattle.tz_cli.specs.Local.{LocalAnswers}
 use Rattle.tz_cli.specs.Moves.{MovesAnswers}
 use Rattle.tz_cli.specs.Days.{DaysAnswers}
+use Rattle.tz_cli.specs.ZoneFile.{TzifAnswers}
 use Rattle.tz_cli.specs.Dump.{DumpAnswers, asked_for}
 use Rattle.tz_cli.specs.Check.{CheckAnswers}
 use Rattle.tz_cli.specs.Output.{as_output}
@@ -39,6 +40,13 @@ returns-in-Days-clause-answers c =
     let fits : FitsSigned w64 c.in-Days.first = search rules in
     let given = simp to_z-of_z at (rw c.as_bytes-in-Days.ensures.value at c.days.ensures) in
     rw (c.line-in-Days.ensures, c.in-Days.is) (over_source (named c.in-Days.text) c.args.contents c.source-in-Days.result (λ source. DaysAnswers source c.in-Days.zone.now c.in-Days.first c.in-Days.count) (as_output c.days.result) c.source-in-Days.ensures (gives_line (DaysAnswers c.source-in-Days.result c.in-Days.zone.now c.in-Days.first c.in-Days.count) c.days.result given))
+
+pub returns-in-Tzif-clause-answers : goal.returns-in-Tzif-clause-answers
+returns-in-Tzif-clause-answers c =
+    let first_fits : FitsSigned w32 c.in-Tzif.first = search rules in
+    let last_fits : FitsSigned w32 c.in-Tzif.last = search rules in
+    let given = simp to_z-of_z at (rw c.as_bytes-in-Tzif.ensures.value at c.tzif.ensures) in
+    rw (c.line-in-Tzif.ensures, c.in-Tzif.is) (over_source (named c.in-Tzif.text) c.args.contents c.source-in-Tzif.result (λ source. TzifAnswers source c.in-Tzif.zone.now c.in-Tzif.first c.in-Tzif.last) (as_output c.tzif.result) c.source-in-Tzif.ensures (gives_line (TzifAnswers c.source-in-Tzif.result c.in-Tzif.zone.now c.in-Tzif.first c.in-Tzif.last) c.tzif.result given))
 
 pub returns-in-Ok-clause-answers : goal.returns-in-Ok-clause-answers
 returns-in-Ok-clause-answers c =
