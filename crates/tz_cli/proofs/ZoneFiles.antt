@@ -1,6 +1,5 @@
 -- The stretch of civil years, and how `tzif` answers by the file of a zone over it.
-use Rattle.std.proofs.Common.{◌≡◌, ℕ, ◌<◌, ◌≤◌, List, length, filter, true, false, IsTrue, Option, Some, None, IsSome, is_some, Result, Ok, Err, Vec, refl, sym, ap, ◌∙◌, slice_get, arith, rules, FitsSigned, ℤ, pos, neg_ℤ, ◌+ℤ◌, ◌≤ℤ◌, ◌<ℤ◌}
-use Rattle.std.specs.declared.alloc.Global.{Global}
+use Rattle.std.proofs.Common.{◌≡◌, ℕ, ◌<◌, ◌≤◌, List, length, filter, false, Some, None, IsSome, is_some, Err, refl, sym, ap, ◌∙◌, slice_get, arith, rules, FitsSigned, ℤ, pos, neg_ℤ, ◌+ℤ◌, ◌≤ℤ◌, ◌<ℤ◌}
 use Rattle.std.specs.Int.{w32}
 use Rattle.jiff_core.specs.Calendar.{days_in_year}
 use Rattle.jiff_core.proofs.CalendarLemmas.{days_from_civil-day_count, day_count-later_year, days_in_year_bounds}
@@ -10,7 +9,7 @@ use Rattle.tz_types.specs.declared.range.SysInfo.{SysInfo}
 use Rattle.tz_types.specs.declared.source.Source.{Source}
 use Rattle.tz_types.specs.declared.zone.Zone.{Zone}
 use Rattle.tz_types.specs.declared.database.Db.{Db}
-use Rattle.tz_specs.specs.Expansion.{Period, periods_of, full_expansion}
+use Rattle.tz_specs.specs.Expansion.{periods_of, full_expansion}
 use Rattle.tz_specs.proofs.ExpansionLemmas.{begin_of_time-midnight, end_of_time-midnight}
 use Rattle.tz_specs.proofs.SameDatabase.{one_database}
 use Rattle.tz_lines.specs.Locate.{located}
