@@ -27,7 +27,7 @@ use Rattle.tz_cli.specs.Moves.{AreMovesOf, MovesAnswers}
 use Rattle.tz_expand.specs.Stretch.{IsStretch}
 use Rattle.tz_expand.specs.declared.compiled_zone.CompiledZone.{CompiledZone}
 use Rattle.tz_cli.specs.Days.{AreDays, AreDaysOf, DaysAnswers}
-use Rattle.tz_cli.specs.ZoneFile.{AreYears, IsFileOf, TzifAnswers}
+use Rattle.tz_cli.specs.Tzif.{AreYears, IsFileOf, TzifAnswers}
 use Rattle.tz_cli.specs.Dump.{IsThere, IsMissing, DumpAnswers, asked_for}
 use Rattle.tz_cli.specs.Check.{CheckAnswers}
 use Rattle.tz_cli.specs.Clock.{ClockAnswers}

@@ -23,7 +23,7 @@ use Rattle.tz_tzif.specs.declared.tzif_error.TzifError.{TzifError}
 use Rattle.tz_tzif.specs.declared.tzif_error.TzifError.TheVariants as errors
 use Rattle.tz_cli.specs.NamedZone.{IsNamedZone}
 use Rattle.tz_cli.specs.ZoneAnswer.{GivesOfZone}
-use Rattle.tz_cli.specs.ZoneFile.{AreYears, ranges_of_years, types_of_years, IsFileOf, as_refusal}
+use Rattle.tz_cli.specs.Tzif.{AreYears, ranges_of_years, types_of_years, IsFileOf, as_refusal}
 use Rattle.tz_cli.specs.declared.status.Status.{Status}
 use Rattle.tz_cli.specs.declared.status.Status.TheVariants as statuses
 

@@ -20,11 +20,11 @@ use Rattle.tz_cli.specs.declared.command_line.CommandLine.TheVariants as lines
 abbrev pub words_of : List (String Global) → List (List ℕ)
 words_of words = map string_bytes words
 
--- A command: `info` with the text named, a zone's name and an instant; `local` with the text named, a zone's name, a local
--- time and a choice; `moves` with the text named, a zone's name and the two ends of a stretch; `days` with the text named, a zone's name, a day and
--- how many there are from it on; `tzif` with the text named, a zone's name and two years; `dump` with the text named, the
--- two ends of a stretch and the word for a zone or for all; `check` with the text named; `clock` with the file of a leap text,
--- a conversion and a number.
+-- A command: `info` with the text named, a zone's name and an instant; `local` with the text named, a zone's name, a
+-- local time and a choice; `moves` with the text named, a zone's name and the two ends of a stretch; `days` with the
+-- text named, a zone's name, a day and how many there are from it on; `tzif` with the text named, a zone's name and
+-- two years; `dump` with the text named, the two ends of a stretch and the word for a zone or for all; `check` with
+-- the text named; `clock` with the file of a leap text, a conversion and a number.
 pub data Command : Type 0 where
   Info : NamedText → List ℕ → ℤ → Command
   Local : NamedText → List ℕ → ℤ → Choice → Command
@@ -130,8 +130,8 @@ IsCommand words (Clock leaps conversion count) = IsClock words leaps conversion 
 abbrev pub IsNoCommand : List (List ℕ) → Type 0
 IsNoCommand words = (command : Command) → ¬ (IsCommand words command)
 
--- The names of the files that a command reads, in this order. `-` in the place of a leap text's file stands for a text without
--- bytes, and none is read.
+-- The names of the files that a command reads, in this order. `-` in the place of a leap text's file stands for a
+-- text without bytes, and none is read.
 abbrev pub files_of : Command → List (List ℕ)
 files_of (Info text zone instant) = text.files
 files_of (Local text zone l choice) = text.files

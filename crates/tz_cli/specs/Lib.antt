@@ -10,7 +10,7 @@ pub mod NamedZone
 pub mod ZoneAnswer
 pub mod Moves
 pub mod Days
-pub mod ZoneFile
+pub mod Tzif
 pub mod Dump
 pub mod Clock
 pub mod Answer

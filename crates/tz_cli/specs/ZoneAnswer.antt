@@ -28,8 +28,8 @@ pub record IsToldByZone (source : Source) (name : List ℕ) (inside : Type 0) (t
   pub in_range : inside
   pub is : told zone
 
--- The statuses of a command that asks a zone, each with its line and its reason: by when what is asked is in range, and by
--- what a zone then answers.
+-- The statuses of a command that asks a zone, each with its line and its reason: by when what is asked is in range,
+-- and by what a zone then answers.
 abbrev pub ZoneAnswers : Source → List ℕ → Type 0 → (CompiledZone → Status → List ℕ → Type 0) → Status → List ℕ → Type 0
 ZoneAnswers source name inside told statuses.Text line = IsTextRefusal source line
 ZoneAnswers source name inside told statuses.NoZone line = HasNoZone source name × (line ≡ codes "nozone\n")
@@ -38,8 +38,8 @@ ZoneAnswers source name inside told statuses.Range line =
 ZoneAnswers source name inside told status line =
     IsToldByZone source name inside (λ zone. told zone status line)
 
--- What a zone that is there answers: a text; or that what is asked isn't in range, or has no file, but that memory may run out
--- at any time.
+-- What a zone that is there answers: a text; or that what is asked isn't in range, or has no file, but that memory
+-- may run out at any time.
 abbrev pub GivesOfZone : Type 0 → (Status → List ℕ → Type 0) → Result (Vec ℕ Global) Refusal → Type 0
 GivesOfZone inside told (Ok text) = inside × told statuses.Ok text.items
 GivesOfZone inside told (Err refusals.Range) = ¬ inside

@@ -55,7 +55,8 @@ fn days_in(alloc: Global, zone: &CompiledZone, first: i64, count: u32) -> Result
     Ok(text)
 }
 
-/// What `days` prints: a line for each of so many days from the first on, with the seconds that it has in the zone named.
+/// What `days` prints: a line for each of so many days from the first on, with the seconds that it has in the zone
+/// named.
 pub fn days(
     alloc: Global,
     source: &Source,

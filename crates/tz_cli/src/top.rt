@@ -30,7 +30,7 @@ use std::thread::Threads;
 use tz_io::{Files, Sink};
 use tz_types::{Items, Text};
 
-/// A line that was made whole, or its refusal.
+/// What was made whole, a line, lines or a file, or its refusal.
 fn line(outcome: Result<Vec<u8>, Refusal>) -> Result<Output, Refusal>
     ensures { result ≡ as_output outcome }
 {
@@ -150,10 +150,10 @@ fn run_command<F: Files, S: Sink>(
     }
 }
 
-/// Does a whole command, `info`, `local`, `moves`, `days`, `tzif`, `dump`, `check` or `clock`, and answers its status. It prints the text of the command
-/// at `Ok`, what there is to know of the local time at `Local`, and else the line of the refusal. At `Write` a part of that was
-/// taken. `dump` prints what it has made before it makes the rest, so where memory runs out on the way its line stands behind a
-/// first part of the text.
+/// Does a whole command, `info`, `local`, `moves`, `days`, `tzif`, `dump`, `check` or `clock`, and answers its
+/// status. It prints the text of the command at `Ok`, what there is to know of the local time at `Local`, and else
+/// the line of the refusal. At `Write` a part of that was taken. `dump` prints what it has made before it makes the
+/// rest, so where memory runs out on the way its line stands behind a first part of the text.
 pub fn run_plain<F: Files, S: Sink>(
     rt: &(impl Threads + Sync),
     alloc: Global,
@@ -161,8 +161,8 @@ pub fn run_plain<F: Files, S: Sink>(
     files: &mut F,
     sink: &mut S,
 ) -> Plain
-    // All that was printed is the line that is due at the status, and the status has its reason: 0, 3, 8, 9,
-    // 10, 14 and 15 in the text, 11 in the size of the files, 5 in a fault of the next file that was counted in this call.
+    // All that was printed is the line that is due at the status, and the status has its reason: 0, 3, 8, 9, 10, 14
+    // and 15 in the text, 11 in the size of the files, 5 in a fault of the next file that was counted in this call.
     ensures whole { (status : Status) → result ≡ Plain.Done status → status ≢ Status.Write →
         (line : List ℕ) × IsDue (words_of words.now) (F.told files.old) (Failed (F.faults files.old) (F.faults files.new)) status line
         × Appends (S.taken sink.old) (S.taken sink.new) line }

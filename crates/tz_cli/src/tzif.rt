@@ -3,7 +3,7 @@ ghost use Rattle.std.specs.Prelude.{◌≡◌, ◌↔◌, pos, ◌+ℤ◌, IsTru
 ghost use Rattle.jiff_core.specs.Calendar.{IsYear};
 ghost use Rattle.tz_types.specs.Calendar.{year_start};
 ghost use Rattle.tz_tzif.specs.Answer.{Answers};
-ghost use Rattle.tz_cli.specs.ZoneFile.{AreYears, IsFileOf, TzifAnswers, ranges_of_years, as_refusal};
+ghost use Rattle.tz_cli.specs.Tzif.{AreYears, IsFileOf, TzifAnswers, ranges_of_years, as_refusal};
 ghost use Rattle.tz_cli.specs.Refusal.{Gives};
 ghost use Rattle.tz_cli.specs.ZoneAnswer.{GivesOfZone};
 

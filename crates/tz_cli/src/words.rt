@@ -102,15 +102,11 @@ fn moves(words: &[String]) -> Option<CommandLine<'_>>
 fn day_count(word: &[u8]) -> Option<u32>
     ensures { result ≡ day_count_of word.now }
 {
-    match number(word, 1, 15) {
-        Some(count) => {
-            if count < 1 || count > MOST_DAYS {
-                return None;
-            }
-            Some(count as u32)
-        }
-        None => None,
+    let count = number(word, 1, 15)?;
+    if count < 1 || count > MOST_DAYS {
+        return None;
     }
+    Some(count as u32)
 }
 
 /// `days TEXT ZONE FIRST COUNT`.

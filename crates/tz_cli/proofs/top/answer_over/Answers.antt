@@ -7,7 +7,7 @@ use Rattle.tz_cli.specs.Info.{InfoAnswers}
 use Rattle.tz_cli.specs.Local.{LocalAnswers}
 use Rattle.tz_cli.specs.Moves.{MovesAnswers}
 use Rattle.tz_cli.specs.Days.{DaysAnswers}
-use Rattle.tz_cli.specs.ZoneFile.{TzifAnswers}
+use Rattle.tz_cli.specs.Tzif.{TzifAnswers}
 use Rattle.tz_cli.specs.Dump.{DumpAnswers, asked_for}
 use Rattle.tz_cli.specs.Check.{CheckAnswers}
 use Rattle.tz_cli.specs.Output.{as_output}

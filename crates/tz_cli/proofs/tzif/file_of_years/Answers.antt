@@ -2,7 +2,7 @@ use Rattle.std.proofs.Common.{◌≡◌, rules, FitsSigned, pos, ◌+ℤ◌}
 use Rattle.std.specs.Int.{w32, w64}
 use Rattle.std.proofs.lemmas.Int.{to_z-of_z}
 use Rattle.tz_types.specs.Calendar.{year_start}
-use Rattle.tz_cli.specs.ZoneFile.{AreYears}
+use Rattle.tz_cli.specs.Tzif.{AreYears}
 use Rattle.tz_cli.proofs.ZoneFiles.{years_stretch, next_fits}
 use Rattle.tz_cli.proofs.tzif.file_of_years.Goals as goal
 

@@ -1,7 +1,7 @@
 use Rattle.std.proofs.Common.{FitsSigned}
 use Rattle.std.specs.Int.{w32}
 use Rattle.std.proofs.lemmas.Int.{to_z-of_z}
-use Rattle.tz_cli.specs.ZoneFile.{AreYears, IsFileOf}
+use Rattle.tz_cli.specs.Tzif.{AreYears, IsFileOf}
 use Rattle.tz_cli.proofs.ZoneAnswer.{zone_gives}
 use Rattle.tz_cli.proofs.tzif.tzif.Goals as goal
 

@@ -1,7 +1,7 @@
 use Rattle.std.proofs.Common.{◌≡◌, Ok, Err, rules, FitsSigned}
 use Rattle.std.specs.Int.{w32}
 use Rattle.std.proofs.lemmas.Int.{to_z-of_z}
-use Rattle.tz_cli.specs.ZoneFile.{AreYears}
+use Rattle.tz_cli.specs.Tzif.{AreYears}
 use Rattle.tz_cli.proofs.ZoneFiles.{no_file}
 use Rattle.tz_cli.proofs.tzif.tzif_in.Goals as goal
 

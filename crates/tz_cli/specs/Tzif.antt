@@ -31,8 +31,8 @@ ranges_of_years first last zone = ranges_between zone (year_start first) (year_s
 abbrev pub types_of_years : ℤ → ℤ → CompiledZone → List LocalType
 types_of_years first last zone = types_of (merged (ranges_of_years first last zone))
 
--- What a zone answers: the file of these years, unless their types are too many to be numbered, or a designation begins too
--- far behind the first.
+-- What a zone answers: the file of these years, unless their types are too many to be numbered, or a designation
+-- begins too far behind the first.
 abbrev pub IsFileOf : ℤ → ℤ → CompiledZone → Status → List ℕ → Type 0
 IsFileOf first last zone statuses.Ok file =
     let types = types_of_years first last zone in
