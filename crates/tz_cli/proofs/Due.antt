@@ -3,7 +3,7 @@ use Rattle.std.proofs.Common.{◌≡◌, ℕ, ◌<◌, List, ◌⊎◌, inl, inr
 use Rattle.std.specs.List.{AllZip, Any}
 use Rattle.tz_types.specs.Limit.{most_bytes}
 use Rattle.tz_types.specs.Source.{bytes_together}
-use Rattle.tz_cli.specs.Command.{Command, Info, Local, Dump, Check, Clock, IsCommand, files_of}
+use Rattle.tz_cli.specs.Command.{Command, Info, Local, Moves, Days, Tzif, Dump, Check, Clock, IsCommand, files_of}
 use Rattle.tz_cli.specs.Answer.{TextAnswers, IsAnswer}
 use Rattle.tz_cli.specs.Outcome.{FileContents, Holds, IsDueFor, IsDue}
 use Rattle.tz_cli.specs.Refusal.{Refuses, refusal_status, refusal_line}
@@ -18,6 +18,9 @@ use Rattle.tz_cli.proofs.Once.{once, sized}
 no_usage : (command : Command) (contents : List (List ℕ)) (line : List ℕ) → TextAnswers command contents statuses.Usage line → ⊥
 no_usage (Info text zone t) contents line answer = answer.2
 no_usage (Local text zone l choice) contents line answer = answer.2
+no_usage (Moves text zone from to) contents line answer = answer.2.is
+no_usage (Days text zone first count) contents line answer = answer.2.is
+no_usage (Tzif text zone first last) contents line answer = answer.2.is
 no_usage (Dump text from to zone) contents line answer = answer.2
 no_usage (Check text) contents line answer = answer.2
 no_usage (Clock leaps conversion number) contents line answer = answer

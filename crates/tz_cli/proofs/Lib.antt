@@ -5,6 +5,9 @@ pub mod Parts
 pub mod Contents
 pub mod ClockLine
 pub mod Asked
+pub mod ZoneAnswer
+pub mod DayLines
+pub mod ZoneFiles
 pub mod Once
 pub mod Due
 pub mod Dumps

@@ -1,5 +1,5 @@
 -- Words are those of one command at most, and a command has one status over contents: the reasons exclude each other.
-use Rattle.std.proofs.Common.{◌≡◌, ℕ, nat_eq, ◌<◌, ◌≤◌, ◌⊎◌, inl, inr, List, [], ◌∷◌, length, codes, Option, Some, None, find, slice_get, refl, sym, ap, ◌∙◌, subst, arith, ℤ}
+use Rattle.std.proofs.Common.{◌≡◌, ℕ, nat_eq, true, false, ◌<◌, ◌≤◌, ◌⊎◌, inl, inr, List, [], ◌∷◌, length, codes, Option, Some, None, find, slice_get, refl, sym, ap, ◌∙◌, subst, arith, ℤ}
 use mathlib.Core.HLevel.{is_prop→PathP}
 use Rattle.std.proofs.Props.{props}
 use Rattle.std.specs.Cmp.Lexicographic.{pointwise}
@@ -19,10 +19,15 @@ use Rattle.tz_specs.specs.LeapText.{ReadsLeaps}
 use Rattle.tz_output.specs.Choice.{choice_word}
 use Rattle.tz_output.specs.Conversion.{conversion_word}
 use Rattle.tz_cli.specs.Conversion.{IsConvertible}
-use Rattle.tz_cli.specs.Command.{Command, Info, Local, Dump, Check, Clock, IsCommand}
+use Rattle.tz_cli.specs.Command.{Command, Info, Local, Moves, Days, Tzif, Dump, Check, Clock, IsCommand, day_count_of, short_year_of}
 use Rattle.tz_cli.specs.Info.{InfoAnswers}
 use Rattle.tz_text.specs.LocalTime.{local_time_of}
 use Rattle.tz_cli.specs.Local.{HasLocalInfo, IsLocalLine, LocalAnswers}
+use Rattle.tz_cli.specs.Moves.{AreMovesOf, MovesAnswers}
+use Rattle.tz_expand.specs.Stretch.{IsStretch}
+use Rattle.tz_expand.specs.declared.compiled_zone.CompiledZone.{CompiledZone}
+use Rattle.tz_cli.specs.Days.{AreDays, AreDaysOf, DaysAnswers}
+use Rattle.tz_cli.specs.Tzif.{AreYears, IsFileOf, TzifAnswers}
 use Rattle.tz_cli.specs.Dump.{IsThere, IsMissing, DumpAnswers, asked_for}
 use Rattle.tz_cli.specs.Check.{CheckAnswers}
 use Rattle.tz_cli.specs.Clock.{ClockAnswers}
@@ -42,6 +47,8 @@ use Rattle.tz_local.specs.Choice.{IsNotUnique}
 use Rattle.tz_local.proofs.InstantLemmas.{decided}
 use Rattle.tz_cli.proofs.Texts.{some_not_none}
 use Rattle.tz_cli.proofs.Asked.{asked_there}
+use Rattle.tz_cli.proofs.ZoneAnswer.{zone_once}
+use Rattle.tz_cli.proofs.ZoneFiles.{one_file}
 
 abbrev all_conversions : List Conversion
 all_conversions =
@@ -93,6 +100,38 @@ one_choice : (a b : Choice) → choice_word a ≡ choice_word b → a ≡ b
 one_choice a b same =
     let found : Some a ≡ Some b = sym (own_choice a) ∙ ap choice_of same ∙ own_choice b in cc
 
+-- the word with which those of a command begin
+abbrev keyword : Command → List ℕ
+keyword (Info text zone t) = codes "info"
+keyword (Local text zone l choice) = codes "local"
+keyword (Moves text zone from to) = codes "moves"
+keyword (Days text zone first count) = codes "days"
+keyword (Tzif text zone first last) = codes "tzif"
+keyword (Dump text from to zone) = codes "dump"
+keyword (Check text) = codes "check"
+keyword (Clock leaps conversion count) = codes "clock"
+
+begins : (words : List (List ℕ)) (command : Command) → IsCommand words command → (later : List (List ℕ)) × (words ≡ keyword command ∷ later)
+begins words (Info text zone t) is = (is.word ∷ zone ∷ is.number ∷ [], is.words_are)
+begins words (Local text zone l choice) is = (is.word ∷ zone ∷ is.time ∷ choice_word choice ∷ [], is.words_are)
+begins words (Moves text zone from to) is = (is.word ∷ zone ∷ is.first ∷ is.last ∷ [], is.words_are)
+begins words (Days text zone first count) is = (is.word ∷ zone ∷ is.number ∷ is.many ∷ [], is.words_are)
+begins words (Tzif text zone first last) is = (is.word ∷ zone ∷ is.begins ∷ is.ends ∷ [], is.words_are)
+begins words (Dump text from to zone) is = (is.word ∷ is.first ∷ is.last ∷ zone ∷ [], is.words_are)
+begins words (Check text) is = (is.word ∷ [], is.words_are)
+begins words (Clock leaps conversion count) is = (leaps ∷ conversion_word conversion ∷ is.number ∷ [], is.words_are)
+
+-- words of two commands begin with one keyword
+one_keyword : (words : List (List ℕ)) (a b : Command) → IsCommand words a → IsCommand words b → keyword a ≡ keyword b
+one_keyword words a b first second =
+    let here = begins words a first in
+    let there = begins words b second in
+    let are : keyword a ∷ here.0 ≡ keyword b ∷ there.0 = sym here.1 ∙ there.1 in cc
+
+differ : (word other : List ℕ) → word ≡ other → pointwise nat_eq word other ≡ false → pointwise nat_eq other other ≡ true → ⊥
+differ word other same apart alike =
+    let never : true ≡ false = sym alike ∙ ap (λ (it : List ℕ). pointwise nat_eq it other) (sym same) ∙ apart in cc
+
 -- the words are those of at most one command
 pub one_command : (words : List (List ℕ)) (a b : Command) → IsCommand words a → IsCommand words b → a ≡ b
 one_command words (Info text zone t) (Info text' zone' t') first second =
@@ -102,66 +141,8 @@ one_command words (Info text zone t) (Info text' zone' t') first second =
     let word : first.word ≡ second.word = cc in
     let texts : text ≡ text' = one_text first.word second.word text text' word first.text_is second.text_is in
     let zones : zone ≡ zone' = cc in cc
-one_command words (Info text zone t) (Check text') first second =
-    let are : codes "info" ∷ first.word ∷ zone ∷ first.number ∷ [] ≡ codes "check" ∷ second.word ∷ [] = sym first.words_are ∙ second.words_are in cc
-one_command words (Info text zone t) (Clock leaps conversion count) first second =
-    let are : codes "info" ∷ first.word ∷ zone ∷ first.number ∷ [] ≡ codes "clock" ∷ leaps ∷ conversion_word conversion ∷ second.number ∷ [] = sym first.words_are ∙ second.words_are in cc
-one_command words (Info text zone t) (Dump text' from to zone') first second =
-    let are : codes "info" ∷ first.word ∷ zone ∷ first.number ∷ [] ≡ codes "dump" ∷ second.word ∷ second.first ∷ second.last ∷ zone' ∷ [] = sym first.words_are ∙ second.words_are in cc
-one_command words (Dump text from to zone) (Info text' zone' t') first second =
-    let are : codes "dump" ∷ first.word ∷ first.first ∷ first.last ∷ zone ∷ [] ≡ codes "info" ∷ second.word ∷ zone' ∷ second.number ∷ [] = sym first.words_are ∙ second.words_are in cc
-one_command words (Dump text from to zone) (Dump text' from' to' zone') first second =
-    let are : codes "dump" ∷ first.word ∷ first.first ∷ first.last ∷ zone ∷ [] ≡ codes "dump" ∷ second.word ∷ second.first ∷ second.last ∷ zone' ∷ [] = sym first.words_are ∙ second.words_are in
-    let begins : first.first ≡ second.first = cc in
-    let ends : first.last ≡ second.last = cc in
-    let froms : from ≡ from' = one_number first.first second.first from from' begins first.first_is second.first_is in
-    let tos : to ≡ to' = one_number first.last second.last to to' ends first.last_is second.last_is in
-    let word : first.word ≡ second.word = cc in
-    let texts : text ≡ text' = one_text first.word second.word text text' word first.text_is second.text_is in
-    let zones : zone ≡ zone' = cc in cc
-one_command words (Dump text from to zone) (Check text') first second =
-    let are : codes "dump" ∷ first.word ∷ first.first ∷ first.last ∷ zone ∷ [] ≡ codes "check" ∷ second.word ∷ [] = sym first.words_are ∙ second.words_are in cc
-one_command words (Dump text from to zone) (Clock leaps conversion count) first second =
-    let are : codes "dump" ∷ first.word ∷ first.first ∷ first.last ∷ zone ∷ [] ≡ codes "clock" ∷ leaps ∷ conversion_word conversion ∷ second.number ∷ [] = sym first.words_are ∙ second.words_are in cc
-one_command words (Check text) (Dump text' from to zone') first second =
-    let are : codes "check" ∷ first.word ∷ [] ≡ codes "dump" ∷ second.word ∷ second.first ∷ second.last ∷ zone' ∷ [] = sym first.words_are ∙ second.words_are in cc
-one_command words (Clock leaps conversion count) (Dump text' from to zone') first second =
-    let are : codes "clock" ∷ leaps ∷ conversion_word conversion ∷ first.number ∷ [] ≡ codes "dump" ∷ second.word ∷ second.first ∷ second.last ∷ zone' ∷ [] = sym first.words_are ∙ second.words_are in cc
-one_command words (Check text) (Info text' zone' t') first second =
-    let are : codes "check" ∷ first.word ∷ [] ≡ codes "info" ∷ second.word ∷ zone' ∷ second.number ∷ [] = sym first.words_are ∙ second.words_are in cc
-one_command words (Check text) (Check text') first second =
-    let are : codes "check" ∷ first.word ∷ [] ≡ codes "check" ∷ second.word ∷ [] = sym first.words_are ∙ second.words_are in
-    let word : first.word ≡ second.word = cc in
-    let texts : text ≡ text' = one_text first.word second.word text text' word first.text_is second.text_is in cc
-one_command words (Check text) (Clock leaps conversion count) first second =
-    let are : codes "check" ∷ first.word ∷ [] ≡ codes "clock" ∷ leaps ∷ conversion_word conversion ∷ second.number ∷ [] = sym first.words_are ∙ second.words_are in cc
-one_command words (Clock leaps conversion count) (Info text' zone' t') first second =
-    let are : codes "clock" ∷ leaps ∷ conversion_word conversion ∷ first.number ∷ [] ≡ codes "info" ∷ second.word ∷ zone' ∷ second.number ∷ [] = sym first.words_are ∙ second.words_are in cc
-one_command words (Clock leaps conversion count) (Check text') first second =
-    let are : codes "clock" ∷ leaps ∷ conversion_word conversion ∷ first.number ∷ [] ≡ codes "check" ∷ second.word ∷ [] = sym first.words_are ∙ second.words_are in cc
-one_command words (Clock leaps conversion count) (Clock leaps' conversion' count') first second =
-    let are : codes "clock" ∷ leaps ∷ conversion_word conversion ∷ first.number ∷ [] ≡ codes "clock" ∷ leaps' ∷ conversion_word conversion' ∷ second.number ∷ [] = sym first.words_are ∙ second.words_are in
-    let number : first.number ≡ second.number = cc in
-    let counts : count ≡ count' = one_number first.number second.number count count' number first.number_is second.number_is in
-    let files : leaps ≡ leaps' = cc in
-    let spelt : conversion_word conversion ≡ conversion_word conversion' = cc in
-    let same : conversion ≡ conversion' = one_conversion conversion conversion' spelt in cc
-one_command words (Info text zone t) (Local text' zone' l' choice') first second =
-    let are : codes "info" ∷ first.word ∷ zone ∷ first.number ∷ [] ≡ codes "local" ∷ second.word ∷ zone' ∷ second.time ∷ choice_word choice' ∷ [] = sym first.words_are ∙ second.words_are in cc
-one_command words (Local text zone l choice) (Info text' zone' t') first second =
-    let are : codes "local" ∷ first.word ∷ zone ∷ first.time ∷ choice_word choice ∷ [] ≡ codes "info" ∷ second.word ∷ zone' ∷ second.number ∷ [] = sym first.words_are ∙ second.words_are in cc
-one_command words (Dump text from to zone) (Local text' zone' l' choice') first second =
-    let are : codes "dump" ∷ first.word ∷ first.first ∷ first.last ∷ zone ∷ [] ≡ codes "local" ∷ second.word ∷ zone' ∷ second.time ∷ choice_word choice' ∷ [] = sym first.words_are ∙ second.words_are in cc
-one_command words (Local text zone l choice) (Dump text' from' to' zone') first second =
-    let are : codes "local" ∷ first.word ∷ zone ∷ first.time ∷ choice_word choice ∷ [] ≡ codes "dump" ∷ second.word ∷ second.first ∷ second.last ∷ zone' ∷ [] = sym first.words_are ∙ second.words_are in cc
-one_command words (Check text) (Local text' zone' l' choice') first second =
-    let are : codes "check" ∷ first.word ∷ [] ≡ codes "local" ∷ second.word ∷ zone' ∷ second.time ∷ choice_word choice' ∷ [] = sym first.words_are ∙ second.words_are in cc
-one_command words (Local text zone l choice) (Check text') first second =
-    let are : codes "local" ∷ first.word ∷ zone ∷ first.time ∷ choice_word choice ∷ [] ≡ codes "check" ∷ second.word ∷ [] = sym first.words_are ∙ second.words_are in cc
-one_command words (Clock leaps conversion count) (Local text' zone' l' choice') first second =
-    let are : codes "clock" ∷ leaps ∷ conversion_word conversion ∷ first.number ∷ [] ≡ codes "local" ∷ second.word ∷ zone' ∷ second.time ∷ choice_word choice' ∷ [] = sym first.words_are ∙ second.words_are in cc
-one_command words (Local text zone l choice) (Clock leaps' conversion' count') first second =
-    let are : codes "local" ∷ first.word ∷ zone ∷ first.time ∷ choice_word choice ∷ [] ≡ codes "clock" ∷ leaps' ∷ conversion_word conversion' ∷ second.number ∷ [] = sym first.words_are ∙ second.words_are in cc
+one_command words (Info text zone t) other first second =
+    absurd (differ (keyword (Info text zone t)) (keyword other) (one_keyword words (Info text zone t) other first second) refl refl)
 one_command words (Local text zone l choice) (Local text' zone' l' choice') first second =
     let are : codes "local" ∷ first.word ∷ zone ∷ first.time ∷ choice_word choice ∷ [] ≡ codes "local" ∷ second.word ∷ zone' ∷ second.time ∷ choice_word choice' ∷ [] = sym first.words_are ∙ second.words_are in
     let time : first.time ≡ second.time = cc in
@@ -171,6 +152,67 @@ one_command words (Local text zone l choice) (Local text' zone' l' choice') firs
     let word : first.word ≡ second.word = cc in
     let texts : text ≡ text' = one_text first.word second.word text text' word first.text_is second.text_is in
     let zones : zone ≡ zone' = cc in cc
+one_command words (Local text zone l choice) other first second =
+    absurd (differ (keyword (Local text zone l choice)) (keyword other) (one_keyword words (Local text zone l choice) other first second) refl refl)
+one_command words (Moves text zone from to) (Moves text' zone' from' to') first second =
+    let are : codes "moves" ∷ first.word ∷ zone ∷ first.first ∷ first.last ∷ [] ≡ codes "moves" ∷ second.word ∷ zone' ∷ second.first ∷ second.last ∷ [] = sym first.words_are ∙ second.words_are in
+    let begins : first.first ≡ second.first = cc in
+    let ends : first.last ≡ second.last = cc in
+    let froms : from ≡ from' = one_number first.first second.first from from' begins first.first_is second.first_is in
+    let tos : to ≡ to' = one_number first.last second.last to to' ends first.last_is second.last_is in
+    let word : first.word ≡ second.word = cc in
+    let texts : text ≡ text' = one_text first.word second.word text text' word first.text_is second.text_is in
+    let zones : zone ≡ zone' = cc in cc
+one_command words (Moves text zone from to) other first second =
+    absurd (differ (keyword (Moves text zone from to)) (keyword other) (one_keyword words (Moves text zone from to) other first second) refl refl)
+one_command words (Days text zone day count) (Days text' zone' day' count') first second =
+    let are : codes "days" ∷ first.word ∷ zone ∷ first.number ∷ first.many ∷ [] ≡ codes "days" ∷ second.word ∷ zone' ∷ second.number ∷ second.many ∷ [] = sym first.words_are ∙ second.words_are in
+    let number : first.number ≡ second.number = cc in
+    let many : first.many ≡ second.many = cc in
+    let days : day ≡ day' = one_number first.number second.number day day' number first.number_is second.number_is in
+    let counts : Some count ≡ Some count' = sym first.count_is ∙ ap day_count_of many ∙ second.count_is in
+    let word : first.word ≡ second.word = cc in
+    let texts : text ≡ text' = one_text first.word second.word text text' word first.text_is second.text_is in
+    let zones : zone ≡ zone' = cc in cc
+one_command words (Days text zone day count) other first second =
+    absurd (differ (keyword (Days text zone day count)) (keyword other) (one_keyword words (Days text zone day count) other first second) refl refl)
+one_command words (Tzif text zone first last) (Tzif text' zone' first' last') here there =
+    let are : codes "tzif" ∷ here.word ∷ zone ∷ here.begins ∷ here.ends ∷ [] ≡ codes "tzif" ∷ there.word ∷ zone' ∷ there.begins ∷ there.ends ∷ [] = sym here.words_are ∙ there.words_are in
+    let begins : here.begins ≡ there.begins = cc in
+    let ends : here.ends ≡ there.ends = cc in
+    let firsts : Some first ≡ Some first' = sym here.first_is ∙ ap short_year_of begins ∙ there.first_is in
+    let lasts : Some last ≡ Some last' = sym here.last_is ∙ ap short_year_of ends ∙ there.last_is in
+    let word : here.word ≡ there.word = cc in
+    let texts : text ≡ text' = one_text here.word there.word text text' word here.text_is there.text_is in
+    let zones : zone ≡ zone' = cc in cc
+one_command words (Tzif text zone begins ends) other first second =
+    absurd (differ (keyword (Tzif text zone begins ends)) (keyword other) (one_keyword words (Tzif text zone begins ends) other first second) refl refl)
+one_command words (Dump text from to zone) (Dump text' from' to' zone') first second =
+    let are : codes "dump" ∷ first.word ∷ first.first ∷ first.last ∷ zone ∷ [] ≡ codes "dump" ∷ second.word ∷ second.first ∷ second.last ∷ zone' ∷ [] = sym first.words_are ∙ second.words_are in
+    let begins : first.first ≡ second.first = cc in
+    let ends : first.last ≡ second.last = cc in
+    let froms : from ≡ from' = one_number first.first second.first from from' begins first.first_is second.first_is in
+    let tos : to ≡ to' = one_number first.last second.last to to' ends first.last_is second.last_is in
+    let word : first.word ≡ second.word = cc in
+    let texts : text ≡ text' = one_text first.word second.word text text' word first.text_is second.text_is in
+    let zones : zone ≡ zone' = cc in cc
+one_command words (Dump text from to zone) other first second =
+    absurd (differ (keyword (Dump text from to zone)) (keyword other) (one_keyword words (Dump text from to zone) other first second) refl refl)
+one_command words (Check text) (Check text') first second =
+    let are : codes "check" ∷ first.word ∷ [] ≡ codes "check" ∷ second.word ∷ [] = sym first.words_are ∙ second.words_are in
+    let word : first.word ≡ second.word = cc in
+    let texts : text ≡ text' = one_text first.word second.word text text' word first.text_is second.text_is in cc
+one_command words (Check text) other first second =
+    absurd (differ (keyword (Check text)) (keyword other) (one_keyword words (Check text) other first second) refl refl)
+one_command words (Clock leaps conversion count) (Clock leaps' conversion' count') first second =
+    let are : codes "clock" ∷ leaps ∷ conversion_word conversion ∷ first.number ∷ [] ≡ codes "clock" ∷ leaps' ∷ conversion_word conversion' ∷ second.number ∷ [] = sym first.words_are ∙ second.words_are in
+    let number : first.number ≡ second.number = cc in
+    let counts : count ≡ count' = one_number first.number second.number count count' number first.number_is second.number_is in
+    let files : leaps ≡ leaps' = cc in
+    let spelt : conversion_word conversion ≡ conversion_word conversion' = cc in
+    let same : conversion ≡ conversion' = one_conversion conversion conversion' spelt in cc
+one_command words (Clock leaps conversion count) other first second =
+    absurd (differ (keyword (Clock leaps conversion count)) (keyword other) (one_keyword words (Clock leaps conversion count) other first second) refl refl)
 
 info_once : (source : Source) (name : List ℕ) (t : ℤ) (r s : Status) (line other : List ℕ) → InfoAnswers source name t r line → InfoAnswers source name t s other → r ≡ s
 info_once source name t statuses.Ok statuses.Ok line other a b = refl
@@ -267,6 +309,29 @@ local_once source name l choice statuses.Local statuses.Local line other a b = r
 local_once source name l choice statuses.Local s line other a b = absurd b
 local_once source name l choice r s line other a b = absurd a
 
+-- moves are answered with one status
+moves_told : (from to : ℤ) (a b : CompiledZone) (r s : Status) (line other : List ℕ) → AreMovesOf from to a r line → AreMovesOf from to b s other → r ≡ s
+moves_told from to a b statuses.Ok statuses.Ok line other first second = refl
+moves_told from to a b statuses.Ok s line other first second = absurd second
+moves_told from to a b r s line other first second = absurd first
+
+moves_once : (source : Source) (name : List ℕ) (from to : ℤ) (r s : Status) (line other : List ℕ) → MovesAnswers source name from to r line → MovesAnswers source name from to s other → r ≡ s
+moves_once source name from to r s line other a b =
+    zone_once source name (IsStretch from to) (AreMovesOf from to) r s line other (λ one two here there. moves_told from to one two r s line other) a b
+
+days_told : (first : ℤ) (count : ℕ) (a b : CompiledZone) (r s : Status) (line other : List ℕ) → AreDaysOf first count a r line → AreDaysOf first count b s other → r ≡ s
+days_told first count a b statuses.Ok statuses.Ok line other here there = refl
+days_told first count a b statuses.Ok s line other here there = absurd there
+days_told first count a b r s line other here there = absurd here
+
+days_once : (source : Source) (name : List ℕ) (first : ℤ) (count : ℕ) (r s : Status) (line other : List ℕ) → DaysAnswers source name first count r line → DaysAnswers source name first count s other → r ≡ s
+days_once source name first count r s line other a b =
+    zone_once source name (AreDays first count) (AreDaysOf first count) r s line other (λ one two here there. days_told first count one two r s line other) a b
+
+tzif_once : (source : Source) (name : List ℕ) (first last : ℤ) (r s : Status) (line other : List ℕ) → TzifAnswers source name first last r line → TzifAnswers source name first last s other → r ≡ s
+tzif_once source name first last r s line other a b =
+    zone_once source name (AreYears first last) (IsFileOf first last) r s line other (λ one two here there. one_file source name first last one two r s line other here there) a b
+
 not_missing : (source : Source) (asked : Option (List ℕ)) (db : Db) → Reads source db → IsThere db asked → IsMissing source asked → ⊥
 not_missing source None db reads there missing = missing
 not_missing source (Some name) db reads there missing = some_not_none source name db missing.db reads missing.reads there missing.none
@@ -362,6 +427,12 @@ text_once (Info text zone t) contents r s line other a b =
     source_once text contents (λ source. InfoAnswers source zone t) r s line other (λ source. info_once source zone t r s line other) a b
 text_once (Local text zone l choice) contents r s line other a b =
     source_once text contents (λ source. LocalAnswers source zone l choice) r s line other (λ source. local_once source zone l choice r s line other) a b
+text_once (Moves text zone from to) contents r s line other a b =
+    source_once text contents (λ source. MovesAnswers source zone from to) r s line other (λ source. moves_once source zone from to r s line other) a b
+text_once (Days text zone first count) contents r s line other a b =
+    source_once text contents (λ source. DaysAnswers source zone first count) r s line other (λ source. days_once source zone first count r s line other) a b
+text_once (Tzif text zone first last) contents r s line other a b =
+    source_once text contents (λ source. TzifAnswers source zone first last) r s line other (λ source. tzif_once source zone first last r s line other) a b
 text_once (Dump text from to zone) contents r s line other a b =
     source_once text contents (λ source. DumpAnswers source from to (asked_for zone)) r s line other (λ source. dump_once source from to (asked_for zone) r s line other) a b
 text_once (Check text) contents r s line other a b =

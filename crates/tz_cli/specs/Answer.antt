@@ -5,9 +5,12 @@ use Rattle.tz_types.specs.Limit.{most_bytes}
 use Rattle.tz_types.specs.Source.{bytes_together}
 use Rattle.tz_types.specs.declared.source.Source.{Source}
 use Rattle.tz_cli.specs.NamedText.{NamedText, IsSourceOf}
-use Rattle.tz_cli.specs.Command.{Command, Info, Local, Dump, Check, Clock}
+use Rattle.tz_cli.specs.Command.{Command, Info, Local, Moves, Days, Tzif, Dump, Check, Clock}
 use Rattle.tz_cli.specs.Info.{InfoAnswers}
 use Rattle.tz_cli.specs.Local.{LocalAnswers}
+use Rattle.tz_cli.specs.Moves.{MovesAnswers}
+use Rattle.tz_cli.specs.Days.{DaysAnswers}
+use Rattle.tz_cli.specs.Tzif.{TzifAnswers}
 use Rattle.tz_cli.specs.Dump.{DumpAnswers, asked_for}
 use Rattle.tz_cli.specs.Check.{CheckAnswers}
 use Rattle.tz_cli.specs.Clock.{ClockAnswers}
@@ -25,6 +28,12 @@ TextAnswers (Info text zone instant) contents status line =
     OfSource text contents (λ source. InfoAnswers source zone instant status line)
 TextAnswers (Local text zone l choice) contents status line =
     OfSource text contents (λ source. LocalAnswers source zone l choice status line)
+TextAnswers (Moves text zone from to) contents status line =
+    OfSource text contents (λ source. MovesAnswers source zone from to status line)
+TextAnswers (Days text zone first count) contents status line =
+    OfSource text contents (λ source. DaysAnswers source zone first count status line)
+TextAnswers (Tzif text zone first last) contents status line =
+    OfSource text contents (λ source. TzifAnswers source zone first last status line)
 TextAnswers (Dump text from to zone) contents status line =
     OfSource text contents (λ source. DumpAnswers source from to (asked_for zone) status line)
 TextAnswers (Check text) contents status line =
@@ -43,6 +52,9 @@ IsAnswer command contents status line =
 abbrev pub comes_in_pieces : Command → Bool
 comes_in_pieces (Info text zone instant) = false
 comes_in_pieces (Local text zone l choice) = false
+comes_in_pieces (Moves text zone from to) = false
+comes_in_pieces (Days text zone first count) = false
+comes_in_pieces (Tzif text zone first last) = false
 comes_in_pieces (Dump text from to zone) = true
 comes_in_pieces (Check text) = false
 comes_in_pieces (Clock leaps conversion number) = false

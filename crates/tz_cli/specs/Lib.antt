@@ -7,6 +7,10 @@ pub mod Info
 pub mod Check
 pub mod Local
 pub mod NamedZone
+pub mod ZoneAnswer
+pub mod Moves
+pub mod Days
+pub mod Tzif
 pub mod Dump
 pub mod Clock
 pub mod Answer

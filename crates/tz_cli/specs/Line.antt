@@ -8,7 +8,8 @@ use Rattle.tz_types.specs.declared.fault.Fault.{Fault}
 use Rattle.tz_types.specs.declared.leap_info.LeapInfo.{LeapInfo}
 use Rattle.tz_types.specs.declared.rule_set.RuleSet.{RuleSet}
 use Rattle.tz_types.specs.declared.database.Db.{Db}
-use Rattle.tz_output.specs.Range.{range_text}
+use Rattle.tz_moves.specs.declared.moves.Move.{Move}
+use Rattle.tz_output.specs.Range.{range_text, spaced, shown}
 use Rattle.tz_output.specs.LocalInfo.{local_text}
 use Rattle.tz_output.specs.LeapInfo.{leap_text}
 
@@ -24,9 +25,18 @@ local_line info = local_text info ++ codes "\n"
 abbrev pub sys_line : ℤ → List ℕ
 sys_line instant = codes "sys " ++ signed_decimal instant ++ codes "\n"
 
+-- a move: `AT OFFSET SAVE ABBREV`
+abbrev pub move_line : Move → List ℕ
+move_line change =
+    spaced change.at ++ spaced change.offset ++ spaced change.save ++ shown change.abbrev ++ codes "\n"
+
 -- a number alone
 abbrev pub number_line : ℤ → List ℕ
 number_line number = signed_decimal number ++ codes "\n"
+
+-- a day and how many seconds it has: `DAY SECONDS`
+abbrev pub day_line : ℤ → ℤ → List ℕ
+day_line day seconds = spaced day ++ number_line seconds
 
 -- what there is to know of a UTC count
 abbrev pub leap_line : LeapInfo → List ℕ

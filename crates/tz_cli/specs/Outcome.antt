@@ -90,3 +90,5 @@ exit_code statuses.NoZone = 8
 exit_code statuses.Range = 9
 exit_code statuses.Local = 10
 exit_code statuses.TooLarge = 11
+exit_code statuses.Types = 14
+exit_code statuses.Designations = 15

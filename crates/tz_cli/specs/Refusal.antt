@@ -18,6 +18,8 @@ refusal_status (refusals.Text fault) = statuses.Text
 refusal_status (refusals.Leaps fault) = statuses.Text
 refusal_status refusals.NoZone = statuses.NoZone
 refusal_status refusals.Range = statuses.Range
+refusal_status refusals.Types = statuses.Types
+refusal_status refusals.Designations = statuses.Designations
 refusal_status refusals.Memory = statuses.Memory
 
 -- its line
@@ -28,6 +30,8 @@ refusal_line (refusals.Text fault) = fault_line (codes "text") fault
 refusal_line (refusals.Leaps fault) = fault_line (codes "leaps") fault
 refusal_line refusals.NoZone = codes "nozone\n"
 refusal_line refusals.Range = codes "range\n"
+refusal_line refusals.Types = codes "types\n"
+refusal_line refusals.Designations = codes "designations\n"
 refusal_line refusals.Memory = codes "memory\n"
 
 -- Want of memory may come at any time; any other refusal has a reason: its status and its line are an answer.

@@ -15,6 +15,24 @@ pub enum CommandLine<'w> {
         time: i64,
         choice: Choice,
     },
+    Moves {
+        text: TextWord<'w>,
+        zone: &'w str,
+        from: i64,
+        to: i64,
+    },
+    Days {
+        text: TextWord<'w>,
+        zone: &'w str,
+        first: i64,
+        count: u32,
+    },
+    Tzif {
+        text: TextWord<'w>,
+        zone: &'w str,
+        first: i32,
+        last: i32,
+    },
     Dump {
         text: TextWord<'w>,
         from: i64,

@@ -1,19 +1,23 @@
 //! Commands: the words, the files and the printed line.
 //!
 //! `run_plain` does a whole command: `info TEXT ZONE T` prints the range of a zone that holds an instant, `local TEXT
-//! ZONE L CHOICE` the ranges that show a local time or the instant that it stands for, `dump TEXT FROM TO ZONE` all
-//! ranges that meet a stretch of time, `check TEXT` the counts of what a text has, and `clock LEAPS CONV X` a count of
-//! one clock by that of another. TEXT names up to sixteen files with commas between, and `=VERSION,` before them gives
-//! the text's version. A command that is refused prints why.
+//! ZONE L CHOICE` the ranges that show a local time or the instant that it stands for, `moves TEXT ZONE FROM TO` when
+//! a zone's clock visibly changes, `days TEXT ZONE FIRST COUNT` how many seconds its days have, `tzif TEXT ZONE FIRST
+//! LAST` the zone as a file of RFC 8536 over years, `dump TEXT FROM TO ZONE` all ranges that meet a stretch of time,
+//! `check TEXT` the counts of what a text has, and `clock LEAPS CONV X` a count of one clock by that of another. TEXT
+//! names up to sixteen files with commas between, and `=VERSION,` before them gives the text's version. A command that
+//! is refused prints why.
 #![tactic(auto)]
 
 mod check;
 mod clock;
 mod command_line;
+mod days;
 mod dump;
 mod info;
 mod line;
 mod local;
+mod moves;
 mod named_zone;
 mod output;
 mod printing;
@@ -23,6 +27,7 @@ mod status;
 mod text;
 mod text_word;
 mod top;
+mod tzif;
 mod words;
 mod zone_dump;
 mod zones;

@@ -1,9 +1,10 @@
 ghost use Rattle.std.specs.Prelude.{◌≡◌, ◌≤◌, ◌<◌, ◌*◌, ◌^◌, ◌++◌, IfOk, OnOk};
 ghost use Rattle.std.specs.Fmt.{decimal};
-ghost use Rattle.tz_cli.specs.Line.{range_line, local_line, sys_line, number_line, leap_line, rule_count, check_line, in_file, fault_line};
+ghost use Rattle.tz_cli.specs.Line.{range_line, local_line, sys_line, move_line, day_line, number_line, leap_line, rule_count, check_line, in_file, fault_line};
 
 use std::alloc::Global;
-use tz_output::{put_leap_info, put_local_info, put_range};
+use tz_moves::Move;
+use tz_output::{put_leap_info, put_local_info, put_range, put_spaced, shown};
 use tz_text::put_number;
 use tz_types::{Db, Fault, LeapInfo, LocalInfo, NoMemory, SysInfo};
 
@@ -37,6 +38,18 @@ pub fn sys_line(alloc: Global, instant: i64) -> Result<Vec<u8>, NoMemory>
     Ok(line)
 }
 
+/// Puts the line of a move at the end of a text.
+pub fn put_move(out: &mut Vec<u8>, change: &Move) -> Result<(), NoMemory>
+    ensures { OnOk result (out.new.items ≡ out.old.items ++ move_line change.now) }
+{
+    put_spaced(out, change.at)?;
+    put_spaced(out, change.offset)?;
+    put_spaced(out, change.save)?;
+    out.extend_from_slice(shown(&change.abbrev))?;
+    out.extend_from_slice(b"\n")?;
+    Ok(())
+}
+
 /// The line of a number.
 pub fn number_line(alloc: Global, number: i64) -> Result<Vec<u8>, NoMemory>
     ensures { IfOk result (λ line. line.items ≡ number_line number) }
@@ -45,6 +58,16 @@ pub fn number_line(alloc: Global, number: i64) -> Result<Vec<u8>, NoMemory>
     put_number(&mut line, number)?;
     line.extend_from_slice(b"\n")?;
     Ok(line)
+}
+
+/// Puts the line of a day at the end of a text.
+pub fn put_day(out: &mut Vec<u8>, day: i64, seconds: i64) -> Result<(), NoMemory>
+    ensures { OnOk result (out.new.items ≡ out.old.items ++ day_line day seconds) }
+{
+    put_spaced(out, day)?;
+    put_number(out, seconds)?;
+    out.extend_from_slice(b"\n")?;
+    Ok(())
 }
 
 /// The line of what there is to know of a UTC count.

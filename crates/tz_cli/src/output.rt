@@ -13,8 +13,8 @@ use std::alloc::Global;
 use std::thread::Threads;
 use tz_io::Sink;
 
-/// What a command prints: a line that was made whole, or a dump of zones, whose text is made group by group.
-/// `Undecided` is the line of a local time that stands for an instant only by a choice, where none is made.
+/// What a command prints: a line, lines or a file that were made whole, or a dump of zones, whose text is made group
+/// by group. `Undecided` is the line of a local time that stands for an instant only by a choice, where none is made.
 #[derive(Drop)]
 pub enum Output {
     Line(Vec<u8>),

@@ -97,6 +97,9 @@ pub fn contents_of<F: Files>(
     match command {
         CommandLine::Info { text, .. }
         | CommandLine::Local { text, .. }
+        | CommandLine::Moves { text, .. }
+        | CommandLine::Days { text, .. }
+        | CommandLine::Tzif { text, .. }
         | CommandLine::Dump { text, .. }
         | CommandLine::Check { text } => read_files(alloc, text.names, files),
         CommandLine::Clock { leaps: "-", .. } => Ok(Items::new(alloc)),

@@ -17,6 +17,10 @@ pub enum Refusal {
     Leaps(Fault),
     NoZone,
     Range,
+    /// A file would have more types than can be numbered.
+    Types,
+    /// A designation of a file would begin further on than an index tells.
+    Designations,
     Memory,
 }
 
@@ -31,6 +35,8 @@ impl Refusal {
             Refusal::Text(_) | Refusal::Leaps(_) => Status::Text,
             Refusal::NoZone => Status::NoZone,
             Refusal::Range => Status::Range,
+            Refusal::Types => Status::Types,
+            Refusal::Designations => Status::Designations,
             Refusal::Memory => Status::Memory,
         }
     }
@@ -46,6 +52,8 @@ impl Refusal {
             Refusal::TooLarge => b"toolarge\n".as_slice(),
             Refusal::NoZone => b"nozone\n".as_slice(),
             Refusal::Range => b"range\n".as_slice(),
+            Refusal::Types => b"types\n".as_slice(),
+            Refusal::Designations => b"designations\n".as_slice(),
             Refusal::Memory => b"memory\n".as_slice(),
         };
         Ok(word.to_vec(alloc)?)

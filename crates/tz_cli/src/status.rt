@@ -15,6 +15,8 @@ pub enum Status {
     Range,
     Local,
     TooLarge,
+    Types,
+    Designations,
 }
 
 /// What `run_plain` did: nothing, since the words are those of a command over shared lists, or all of the command.
@@ -41,6 +43,8 @@ impl Status {
             Status::Range => 9,
             Status::Local => 10,
             Status::TooLarge => 11,
+            Status::Types => 14,
+            Status::Designations => 15,
         }
     }
 }

@@ -13,12 +13,15 @@ ghost use Rattle.tz_cli.specs.declared.status.Status.{Status};
 use crate::check::check;
 use crate::clock::clock;
 use crate::command_line::CommandLine;
+use crate::days::days;
 use crate::info::info;
 use crate::local::local;
+use crate::moves::moves;
 use crate::output::{Output, print_output};
 use crate::printing::{print, print_refusal};
 use crate::reading::contents_of;
 use crate::refusal::Refusal;
+use crate::tzif::tzif;
 use crate::words::command_of;
 use crate::zones::dump;
 use crate::{Plain, Status};
@@ -27,7 +30,7 @@ use std::thread::Threads;
 use tz_io::{Files, Sink};
 use tz_types::{Items, Text};
 
-/// A line that was made whole, or its refusal.
+/// What was made whole, a line, lines or a file, or its refusal.
 fn line(outcome: Result<Vec<u8>, Refusal>) -> Result<Output, Refusal>
     ensures { result ≡ as_output outcome }
 {
@@ -60,6 +63,24 @@ fn answer_over(
             time,
             choice,
         } => local(alloc, &text.source(contents), zone.as_bytes(), time, choice),
+        CommandLine::Moves {
+            text,
+            zone,
+            from,
+            to,
+        } => line(moves(alloc, &text.source(contents), zone.as_bytes(), from, to)),
+        CommandLine::Days {
+            text,
+            zone,
+            first,
+            count,
+        } => line(days(alloc, &text.source(contents), zone.as_bytes(), first, count)),
+        CommandLine::Tzif {
+            text,
+            zone,
+            first,
+            last,
+        } => line(tzif(alloc, &text.source(contents), zone.as_bytes(), first, last)),
         CommandLine::Dump {
             text,
             from,
@@ -129,10 +150,10 @@ fn run_command<F: Files, S: Sink>(
     }
 }
 
-/// Does a whole command, `info`, `local`, `dump`, `check` or `clock`, and answers its status. It prints the text of the
-/// command at `Ok`, what there is to know of the local time at `Local`, and else the line of the refusal. At `Write` a
-/// part of that was taken. `dump` prints what it has made before it makes the rest, so where memory runs out on the way
-/// its line stands behind a first part of the text.
+/// Does a whole command, `info`, `local`, `moves`, `days`, `tzif`, `dump`, `check` or `clock`, and answers its
+/// status. It prints the text of the command at `Ok`, what there is to know of the local time at `Local`, and else
+/// the line of the refusal. At `Write` a part of that was taken. `dump` prints what it has made before it makes the
+/// rest, so where memory runs out on the way its line stands behind a first part of the text.
 pub fn run_plain<F: Files, S: Sink>(
     rt: &(impl Threads + Sync),
     alloc: Global,
@@ -140,8 +161,8 @@ pub fn run_plain<F: Files, S: Sink>(
     files: &mut F,
     sink: &mut S,
 ) -> Plain
-    // All that was printed is the line that is due at the status, and the status has its reason: 0, 3, 8, 9 and
-    // 10 in the text, 11 in the size of the files, 5 in a fault of the next file that was counted in this call.
+    // All that was printed is the line that is due at the status, and the status has its reason: 0, 3, 8, 9, 10, 14
+    // and 15 in the text, 11 in the size of the files, 5 in a fault of the next file that was counted in this call.
     ensures whole { (status : Status) → result ≡ Plain.Done status → status ≢ Status.Write →
         (line : List ℕ) × IsDue (words_of words.now) (F.told files.old) (Failed (F.faults files.old) (F.faults files.new)) status line
         × Appends (S.taken sink.old) (S.taken sink.new) line }

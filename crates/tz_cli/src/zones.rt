@@ -43,7 +43,7 @@ fn zones_asked_for(db: &Db, word: &[u8]) -> Option<Neighbours>
 }
 
 /// Whether the stretch has an instant, and lies in time.
-fn is_stretch(from: i64, to: i64) -> bool
+pub fn is_stretch(from: i64, to: i64) -> bool
     ensures { IsTrue result ↔ IsStretch from to }
 {
     FIRST_INSTANT <= from && from < to && to <= END_OF_TIME

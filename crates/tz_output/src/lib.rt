@@ -2,7 +2,8 @@
 //! and of choices.
 //!
 //! Each value has one spelling, which every command and every reply uses. The layer above puts values at the end of a text
-//! that it is making, and adds what stands between them. A number is spelled by `put_number` of `tz_text`.
+//! that it is making, and adds what stands between them. A number is spelled by `put_number` of `tz_text`, and with a space
+//! behind it by `put_spaced`.
 #![tactic(auto)]
 
 mod choice;
@@ -15,4 +16,4 @@ pub use choice::Choice;
 pub use conversion::Conversion;
 pub use leap_info::put_leap_info;
 pub use local_info::put_local_info;
-pub use range::put_range;
+pub use range::{put_range, put_spaced, shown};

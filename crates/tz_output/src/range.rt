@@ -6,7 +6,7 @@ use tz_text::put_number;
 use tz_types::{Abbrev, NoMemory, SysInfo};
 
 /// An abbreviation, and `""` where it has no bytes.
-fn shown(abbreviation: &Abbrev) -> &[u8]
+pub fn shown(abbreviation: &Abbrev) -> &[u8]
     ensures { result.now ≡ shown abbreviation.now }
 {
     match abbreviation.as_bytes() {
@@ -16,7 +16,7 @@ fn shown(abbreviation: &Abbrev) -> &[u8]
 }
 
 /// Puts a number and a space at the end of a text.
-fn put_spaced(out: &mut Vec<u8>, number: i64) -> Result<(), NoMemory>
+pub fn put_spaced(out: &mut Vec<u8>, number: i64) -> Result<(), NoMemory>
     ensures { OnOk result (out.new.items ≡ out.old.items ++ spaced number) }
 {
     put_number(out, number)?;

@@ -2,11 +2,15 @@
 #![tactic(auto)]
 
 #[cfg(test)]
+mod days;
+#[cfg(test)]
 mod dumps;
 #[cfg(test)]
 mod links;
 #[cfg(test)]
 mod locals;
+#[cfg(test)]
+mod moves;
 #[cfg(test)]
 mod outside;
 #[cfg(test)]
@@ -17,5 +21,7 @@ mod sizes;
 mod sources;
 #[cfg(test)]
 mod texts;
+#[cfg(test)]
+mod tzif;
 #[cfg(test)]
 mod zone_texts;

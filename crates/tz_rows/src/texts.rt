@@ -108,6 +108,28 @@ const EMPTY_LINE: &str = "Zone A 0 - X 2000 Jan 1 0u\n0 - Y 2000 Jan 1 0u\n0 - Z
 /// An UNTIL whose time ends with a capital letter, which is a suffix like the small one.
 const TEXT_C: &str = "Zone A 0 - X 2000 Jan 1 0U\n0 - Z\n";
 
+/// The same offset under twelve abbreviations of 24 letters.
+const TWELVE: &str = "\
+Zone W 0 - AAAAAAAAAAAAAAAAAAAAAA00 2000
+0 - AAAAAAAAAAAAAAAAAAAAAA01 2001
+0 - AAAAAAAAAAAAAAAAAAAAAA02 2002
+0 - AAAAAAAAAAAAAAAAAAAAAA03 2003
+0 - AAAAAAAAAAAAAAAAAAAAAA04 2004
+0 - AAAAAAAAAAAAAAAAAAAAAA05 2005
+0 - AAAAAAAAAAAAAAAAAAAAAA06 2006
+0 - AAAAAAAAAAAAAAAAAAAAAA07 2007
+0 - AAAAAAAAAAAAAAAAAAAAAA08 2008
+0 - AAAAAAAAAAAAAAAAAAAAAA09 2009
+0 - AAAAAAAAAAAAAAAAAAAAAA10 2010
+0 - AAAAAAAAAAAAAAAAAAAAAA11
+";
+
+/// Two lines of a zone that show the same.
+const TEXT_V: &str = "Zone A 1 - X 2000\n1 - X\n";
+
+/// Abbreviations without bytes.
+const BARE: &str = "Rule R 2000 only - Jan 1 0 1 -\nZone Z 0 R %s\n";
+
 /// A zone whose last line wants another.
 const TEXT_W: &str = "Zone A 0 - X 2000 Jan 1 0u\n";
 
@@ -171,7 +193,7 @@ const TWO_GAPS: &str =
     "Zone W 0 - A 1970\n24 - B 1970 Jan 1 0:01:40u\n-24 - C 1970 Jan 1 0:03:20u\n24 - D\n";
 
 /// Each text by the name that rows call it.
-pub const TEXTS: [(&str, &str); 37] = [
+pub const TEXTS: [(&str, &str); 40] = [
     ("N", TEXT_N),
     ("A", TEXT_A),
     ("B", TEXT_B),
@@ -190,6 +212,9 @@ pub const TEXTS: [(&str, &str); 37] = [
     ("gap", TWO_GAPS),
     ("C", TEXT_C),
     ("emptyline", EMPTY_LINE),
+    ("V", TEXT_V),
+    ("twelve", TWELVE),
+    ("bare", BARE),
     ("W", TEXT_W),
     ("empty", ""),
     ("L27", LEAPS),

@@ -1,10 +1,13 @@
 use Rattle.std.proofs.Common.{◌≡◌, length, Ok, Err, ap, ◌∙◌, rules, FitsSigned, arith}
-use Rattle.std.specs.Int.{w64}
+use Rattle.std.specs.Int.{w32, w64}
 use Rattle.std.proofs.lemmas.Int.{to_z-of_z}
 use Rattle.tz_types.specs.Source.{bytes_together}
 use Rattle.tz_cli.specs.Command.{named}
 use Rattle.tz_cli.specs.Info.{InfoAnswers}
 use Rattle.tz_cli.specs.Local.{LocalAnswers}
+use Rattle.tz_cli.specs.Moves.{MovesAnswers}
+use Rattle.tz_cli.specs.Days.{DaysAnswers}
+use Rattle.tz_cli.specs.Tzif.{TzifAnswers}
 use Rattle.tz_cli.specs.Dump.{DumpAnswers, asked_for}
 use Rattle.tz_cli.specs.Check.{CheckAnswers}
 use Rattle.tz_cli.specs.Output.{as_output}
@@ -24,6 +27,26 @@ returns-in-Local-clause-answers c =
     let fits : FitsSigned w64 c.in-Local.time = search rules in
     let given = simp to_z-of_z at (rw c.as_bytes-in-Local.ensures.value at c.local.ensures.answers) in
     rw c.in-Local.is (over_source (named c.in-Local.text) c.args.contents c.source-in-Local.result (λ source. LocalAnswers source c.in-Local.zone.now c.in-Local.time c.in-Local.choice) c.local.result c.source-in-Local.ensures given)
+
+pub returns-in-Moves-clause-answers : goal.returns-in-Moves-clause-answers
+returns-in-Moves-clause-answers c =
+    let from_fits : FitsSigned w64 c.in-Moves.from = search rules in
+    let to_fits : FitsSigned w64 c.in-Moves.to = search rules in
+    let given = simp to_z-of_z at (rw c.as_bytes-in-Moves.ensures.value at c.moves.ensures) in
+    rw (c.line-in-Moves.ensures, c.in-Moves.is) (over_source (named c.in-Moves.text) c.args.contents c.source-in-Moves.result (λ source. MovesAnswers source c.in-Moves.zone.now c.in-Moves.from c.in-Moves.to) (as_output c.moves.result) c.source-in-Moves.ensures (gives_line (MovesAnswers c.source-in-Moves.result c.in-Moves.zone.now c.in-Moves.from c.in-Moves.to) c.moves.result given))
+
+pub returns-in-Days-clause-answers : goal.returns-in-Days-clause-answers
+returns-in-Days-clause-answers c =
+    let fits : FitsSigned w64 c.in-Days.first = search rules in
+    let given = simp to_z-of_z at (rw c.as_bytes-in-Days.ensures.value at c.days.ensures) in
+    rw (c.line-in-Days.ensures, c.in-Days.is) (over_source (named c.in-Days.text) c.args.contents c.source-in-Days.result (λ source. DaysAnswers source c.in-Days.zone.now c.in-Days.first c.in-Days.count) (as_output c.days.result) c.source-in-Days.ensures (gives_line (DaysAnswers c.source-in-Days.result c.in-Days.zone.now c.in-Days.first c.in-Days.count) c.days.result given))
+
+pub returns-in-Tzif-clause-answers : goal.returns-in-Tzif-clause-answers
+returns-in-Tzif-clause-answers c =
+    let first_fits : FitsSigned w32 c.in-Tzif.first = search rules in
+    let last_fits : FitsSigned w32 c.in-Tzif.last = search rules in
+    let given = simp to_z-of_z at (rw c.as_bytes-in-Tzif.ensures.value at c.tzif.ensures) in
+    rw (c.line-in-Tzif.ensures, c.in-Tzif.is) (over_source (named c.in-Tzif.text) c.args.contents c.source-in-Tzif.result (λ source. TzifAnswers source c.in-Tzif.zone.now c.in-Tzif.first c.in-Tzif.last) (as_output c.tzif.result) c.source-in-Tzif.ensures (gives_line (TzifAnswers c.source-in-Tzif.result c.in-Tzif.zone.now c.in-Tzif.first c.in-Tzif.last) c.tzif.result given))
 
 pub returns-in-Ok-clause-answers : goal.returns-in-Ok-clause-answers
 returns-in-Ok-clause-answers c =
