@@ -1,5 +1,5 @@
 -- Commands, and the words of a command line that stand for them.
-use Rattle.std.specs.Prelude.{◌≡◌, ℕ, nat_eq, List, [], ◌∷◌, codes, ℤ, Some, option_map, if◌then◌else◌, String, string_bytes, map}
+use Rattle.std.specs.Prelude.{◌≡◌, ℕ, nat_eq, List, [], ◌∷◌, codes, ℤ, Option, Some, option_map, if◌then◌else◌, String, string_bytes, map}
 use Rattle.std.specs.Cmp.Lexicographic.{pointwise}
 use Rattle.std.specs.declared.alloc.Global.{Global}
 use Rattle.std.specs.Option.{option_and_then}
