@@ -1,1 +1,7 @@
 pub mod OutcomeText
+pub mod Batch
+pub mod Held
+pub mod Finding
+pub mod PassedOver
+pub mod Answering
+pub mod Run
