@@ -1,0 +1,3 @@
+pub mod NumberCuts
+pub mod WriteTexts
+pub mod OutcomeTexts

@@ -5,3 +5,4 @@ pub mod Finding
 pub mod PassedOver
 pub mod Answering
 pub mod Run
+pub mod Fitting

@@ -21,6 +21,7 @@
 
 mod answer;
 mod found;
+mod laws;
 mod listing;
 mod number;
 mod outcome;
@@ -31,6 +32,7 @@ mod write_line;
 
 pub use answer::Answer;
 pub use found::Found;
+pub use laws::{texts_settle_journals, texts_settle_what_replies_tell};
 pub use listing::Listing;
 pub use outcome::{Outcome, outcome_text};
 pub use reply::Reply;
