@@ -1,3 +1,4 @@
 pub mod NumberCuts
+pub mod OneLine
 pub mod WriteTexts
 pub mod OutcomeTexts

@@ -1,8 +1,7 @@
 //! What the text of an outcome settles: laws of specs/OutcomeText.antt.
 ghost use Rattle.std.specs.Prelude.{◌≡◌, map};
-ghost use Rattle.std.specs.List.{All};
 ghost use Rattle.tz_batch.specs.OutcomeText.{outcome_text};
-ghost use Rattle.tz_batch.specs.Fitting.{FitsOutcome, IsAnswerOneLine, reply_told};
+ghost use Rattle.tz_batch.specs.Fitting.{FitsOutcome, reply_told};
 ghost use Rattle.tz_batch.specs.declared.outcome.Outcome.{Outcome as DeclaredOutcome};
 
 /// Two outcomes with the same text have the same journal.
@@ -12,5 +11,5 @@ pub fn texts_settle_journals()
 
 /// They have as many replies, to operations at the same lines, at the same positions, and with the same text of the answer.
 pub fn texts_settle_what_replies_tell()
-    ensures { (a b : DeclaredOutcome) → FitsOutcome a → FitsOutcome b → All IsAnswerOneLine a.replies → All IsAnswerOneLine b.replies → outcome_text a ≡ outcome_text b → map reply_told a.replies ≡ map reply_told b.replies }
+    ensures { (a b : DeclaredOutcome) → FitsOutcome a → FitsOutcome b → outcome_text a ≡ outcome_text b → map reply_told a.replies ≡ map reply_told b.replies }
 {}
