@@ -1,6 +1,6 @@
 -- What is answered to an operation at a position, after the list that it met there. A reply that tells of a write met the list
 -- before that write; every other reply met the list at its position.
-use Rattle.std.specs.Prelude.{◌≡◌, ◌≢◌, ℕ, suc, zero, ◌≤◌, ◌<◌, false, ◌⊎◌, List, map, Option, Some, option_map, slice_get, IsTrue}
+use Rattle.std.specs.Prelude.{◌≡◌, ℕ, suc, ◌≤◌, false, ◌⊎◌, List, map, Some, option_map, slice_get, IsTrue}
 use Rattle.tz_types.specs.declared.fault.Fault.{Fault}
 use Rattle.tz_script.specs.declared.operation.Op.{Op}
 use Rattle.tz_script.specs.declared.operation.Op.TheVariants as ops

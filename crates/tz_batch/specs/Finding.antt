@@ -1,4 +1,4 @@
--- What is found in a version: exactly one of these answers fits each lookup.
+-- What is found in a version: which answers fit each lookup.
 use Rattle.std.specs.Prelude.{◌≡◌, ℕ, List, ℤ, ◌+ℤ◌, ◌-ℤ◌, Option, Some, None}
 use Rattle.tz_types.specs.declared.range.Choose.{Choose}
 use Rattle.tz_types.specs.declared.leaps.Leaps.{Leaps}

@@ -14,9 +14,10 @@
 //! end
 //! ```
 //!
-//! Which outcomes a script may have is defined in specs/Run.antt, for any number of lanes and rounds. Nothing runs a script
-//! yet: the layer that does will stand here, and its promise will be that definition. The crate stands on `tz_script` for
-//! scripts, on `tz_version` for versions, on `pin_core` for the list, and on `tz_output` for spellings.
+//! The text settles the journal, and of each reply the line, the position and the text of the answer (`laws`). Which outcomes
+//! a script may have is defined in specs/Run.antt, for any number of lanes and rounds. Nothing runs a script yet: the layer
+//! that does will stand here, and its promise will be that definition. The crate stands on `tz_script` for scripts, on
+//! `tz_version` for versions, on `pin_core` for the list, and on `tz_output` for spellings.
 #![tactic(auto)]
 
 mod answer;
