@@ -2,3 +2,5 @@ pub mod NumberCuts
 pub mod OneLine
 pub mod WriteTexts
 pub mod OutcomeTexts
+pub mod AnswerTexts
+pub mod RunTexts

@@ -28,11 +28,11 @@ use Rattle.tz_batch.specs.declared.found.Found.TheVariants as found
 both_true : (a b : Bool) → a ≡ true → b ≡ true → (a && b) ≡ true
 both_true a b one two = rw (one, two) refl
 
-first_true : (a b : Bool) → (a && b) ≡ true → a ≡ true
+pub first_true : (a b : Bool) → (a && b) ≡ true → a ≡ true
 first_true true b e = refl
 first_true false b e = e
 
-second_true : (a b : Bool) → (a && b) ≡ true → b ≡ true
+pub second_true : (a b : Bool) → (a && b) ≡ true → b ≡ true
 second_true a b e = grind arith
 
 other_than_newline : (g : ℕ) → not (g == 10) ≡ true → g ≢ 10

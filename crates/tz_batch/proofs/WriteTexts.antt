@@ -51,7 +51,7 @@ push_same n src slot m other place one two three = cc
 erase_same : (after gone behind other : ℕ) → after ≡ behind → gone ≡ other → Erase after gone ≡ Erase behind other
 erase_same after gone behind other one two = cc
 
-apart : (m n : ℕ) → n < m → m ≡ n → ⊥
+pub apart : (m n : ℕ) → n < m → m ≡ n → ⊥
 apart m n h e = omega arith
 
 p_is_not_e : (s t : List ℕ) → 112 ∷ s ≡ 101 ∷ t → ⊥

@@ -14,9 +14,10 @@
 //! end
 //! ```
 //!
-//! The text settles the journal, and of each reply the line, the position and the text of the answer (`laws`). Which outcomes
-//! a script may have is defined in specs/Run.antt, for any number of lanes and rounds. Nothing runs a script yet: the layer
-//! that does will stand here, and its promise will be that definition. The crate stands on `tz_script` for scripts, on
+//! The text settles the journal, and of each reply the line, the position and the text of the answer; of a script that looks
+//! into no version it settles the whole outcome (`laws`). Which outcomes a script may have is defined in specs/Run.antt, for
+//! any number of lanes and rounds. Nothing runs a script yet: the layer that does will stand here, and its promise will be
+//! that definition. The crate stands on `tz_script` for scripts, on
 //! `tz_version` for versions, on `pin_core` for the list, and on `tz_output` for spellings.
 #![tactic(auto)]
 
@@ -33,7 +34,9 @@ mod write_line;
 
 pub use answer::Answer;
 pub use found::Found;
-pub use laws::{texts_settle_journals, texts_settle_what_replies_tell};
+pub use laws::{
+    texts_settle_journals, texts_settle_runs_without_lookups, texts_settle_what_replies_tell,
+};
 pub use listing::Listing;
 pub use outcome::{Outcome, outcome_text};
 pub use reply::Reply;
