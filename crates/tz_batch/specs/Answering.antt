@@ -1,11 +1,12 @@
--- What is answered to an operation at a position, after the list that it met there. A reply that tells of a write met the list
--- before that write; every other reply met the list at its position.
+-- What is answered to an operation at a position, after the list that it met there. A reply that tells of a write met
+-- the list before that write; every other reply met the list at its position.
 use Rattle.std.specs.Prelude.{◌≡◌, ℕ, suc, ◌≤◌, false, ◌⊎◌, List, map, Some, option_map, slice_get, IsTrue}
 use Rattle.tz_types.specs.declared.fault.Fault.{Fault}
 use Rattle.tz_script.specs.declared.operation.Op.{Op}
 use Rattle.tz_script.specs.declared.operation.Op.TheVariants as ops
 use Rattle.tz_script.specs.declared.operation.Pick.{Pick}
 use Rattle.tz_script.specs.declared.operation.Pick.TheVariants.{Front, Held}
+use Rattle.tz_expand.specs.declared.compiled_zone.CompiledZone.{CompiledZone}
 use Rattle.tz_version.specs.declared.sources.Sources.{Sources}
 use Rattle.tz_version.specs.Refusal.{RefusesLeapText, RefusesSource}
 use Rattle.pin_core.specs.declared.write.Change.{Change}
@@ -44,7 +45,8 @@ AnswersDrop batch before here name (answers.Dropped n slot) =
     (edition : Edition) × IsHeldAs batch before here.operation name edition × IsToldAs edition n slot
 AnswersDrop batch before here name _ = ⊥
 
--- no version is made of the source at a place: the leap text is refused with that fault, or it is accepted and the source refused
+-- no version is made of the source at a place: the leap text is refused with that fault, or it is accepted and the
+-- source refused
 abbrev pub IsRefusedWith : Sources → ℕ → Fault → Type 0
 IsRefusedWith sources src fault = RefusesLeapText sources.leaps fault ⊎ RefusesSource sources src fault
 
@@ -68,8 +70,8 @@ AnswersReload batch before here src w answers.Full =
     IsAccepted batch.sources src × ¬ (HasNameOf batch w src) × IsFull batch before here.operation w
 AnswersReload batch before here src w _ = ⊥
 
--- The version behind which an erasure at a position erases: the one that is held, or the front at some position from the last one
--- of the lane in the round, or from where the round starts, up to the one that the erasure met.
+-- The version behind which an erasure at a position erases: the one that is held, or the front at some position from
+-- the last one of the lane in the round, or from where the round starts, up to the one that the erasure met.
 abbrev pub ErasesBehind : Batch → List Answered → Answered → Pick → ℕ → Edition → Type 0
 ErasesBehind batch before here Front met edition =
     (h : ℕ) × (position_before batch before here.operation ≤ h) × (h ≤ met) × (edition ≡ newest_at batch h)
@@ -104,6 +106,11 @@ AnswersLookup batch before here pick finds (answers.On n slot found) =
     (edition : Edition) × LooksInto batch before here pick edition × IsToldAs edition n slot × finds edition found
 AnswersLookup batch before here pick finds _ = ⊥
 
+-- the same in a zone of that name
+abbrev pub AnswersInZone : Batch → List Answered → Answered → Pick → List ℕ → (CompiledZone → Found → Type 0) → Answer → Type 0
+AnswersInZone batch before here pick name finds answer =
+    AnswersLookup batch before here pick (λ edition. FindsInZone batch.sources edition.src name finds) answer
+
 -- what one thread answers to an operation at its reply's position, where these operations stand before it
 abbrev pub IsRightReply : Batch → List Answered → Answered → Type 0
 IsRightReply batch before here = by_op here.operation.op here.reply.w here.reply.answer
@@ -113,13 +120,13 @@ IsRightReply batch before here = by_op here.operation.op here.reply.w here.reply
     by_op (ops.Hold name) w answer = AnswersHold batch w answer
     by_op (ops.Drop name) w answer = AnswersDrop batch before here name answer
     by_op (ops.Info v zone t) w answer =
-        AnswersLookup batch before here v (λ edition. FindsInZone batch.sources edition.src zone (λ z. FindsInfo z t)) answer
+        AnswersInZone batch before here v zone (λ compiled. FindsInfo compiled t) answer
     by_op (ops.Local v zone l) w answer =
-        AnswersLookup batch before here v (λ edition. FindsInZone batch.sources edition.src zone (λ z. FindsLocal z l)) answer
+        AnswersInZone batch before here v zone (λ compiled. FindsLocal compiled l) answer
     by_op (ops.Sys v zone l choose) w answer =
-        AnswersLookup batch before here v (λ edition. FindsInZone batch.sources edition.src zone (λ z. FindsSys z l choose)) answer
+        AnswersInZone batch before here v zone (λ compiled. FindsSys compiled l choose) answer
     by_op (ops.Scan v zone from step count) w answer =
-        AnswersLookup batch before here v (λ edition. FindsInZone batch.sources edition.src zone (λ z. FindsScan z from step count)) answer
+        AnswersInZone batch before here v zone (λ compiled. FindsScan compiled from step count) answer
     by_op (ops.Clock v conv x) w answer =
         AnswersLookup batch before here v (λ edition. FindsByClock batch.sources conv x) answer
     by_op (ops.Reload src) w answer = AnswersReload batch before here src w answer

@@ -1,4 +1,5 @@
--- A batch: a script over some sources, in a list of so many slots, with its outcome. A position w is the number of writes so far.
+-- A batch: a script over some sources, in a list of so many slots, with its outcome. A position w is the number of
+-- writes so far.
 use Rattle.std.specs.Prelude.{ℕ, ◌==◌, nat_lt, Bool, true, false, ◌&&◌, List, [], ◌∷◌, Option, Some, None, take, filter, fold, count_by, slice_get}
 use Rattle.tz_types.specs.declared.source.Source.{Source}
 use Rattle.tz_specs.specs.Reads.{version_of}

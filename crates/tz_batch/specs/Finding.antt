@@ -47,7 +47,8 @@ abbrev pub FindsInZone : Sources → ℕ → List ℕ → (CompiledZone → Foun
 FindsInZone sources src name finds found.NoZone =
     (release : Release) × IsVersionOf sources src release × LacksZone release name
 FindsInZone sources src name finds found =
-    (release : Release) × (zone : CompiledZone) × IsVersionOf sources src release × IsZoneCalled release name zone × finds zone found
+    (release : Release) × (zone : CompiledZone) × IsVersionOf sources src release
+    × IsZoneCalled release name zone × finds zone found
 
 -- a count is in the range of a conversion: it is a system time, or it or its UTC count is a UTC count
 abbrev pub IsCountOf : Conversion → Leaps → ℤ → Type 0

@@ -1,4 +1,5 @@
--- What the types of an outcome keep: numbers that fit so many bits, and abbreviations without a newline. Laws say it as a premise.
+-- What the types of an outcome keep: numbers that fit so many bits, and abbreviations without a newline. Laws say it as
+-- a premise.
 use Rattle.std.specs.Prelude.{ℕ, ◌<◌, ◌^◌, ◌==◌, Bool, not, List, length, ℤ, IsTrue}
 use Rattle.std.specs.List.{All, list_all}
 use Rattle.jiff_core.specs.Calendar.{IsWithin}

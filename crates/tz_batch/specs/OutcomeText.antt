@@ -33,7 +33,8 @@ change_text (Erase after gone) = codes "erase" ++ after_space after ++ after_spa
 -- `W LANE SEQ` and what the write changes; the lane is the reader's number plus 1
 unfoldable pub write_line : ℕ → Write → List ℕ
 write_line w write =
-    decimal w ++ after_space (write.by + 1) ++ after_space write.seq ++ codes " " ++ change_text write.change ++ codes "\n"
+    decimal w ++ after_space (write.by + 1) ++ after_space write.seq
+    ++ codes " " ++ change_text write.change ++ codes "\n"
 
 -- the lines of writes, the first of which is numbered so
 abbrev pub write_lines : ℕ → List Write → List ℕ
@@ -98,8 +99,8 @@ reply_line reply =
 abbrev pub count_line : List ℕ → ℕ → List ℕ
 count_line word count = word ++ decimal count ++ codes "\n"
 
--- the writes of the journal, numbered from 1, and the replies in the order of the script, each with their count above them,
--- and a last line
+-- the writes of the journal, numbered from 1, and the replies in the order of the script, each with their count above
+-- them, and a last line
 unfoldable pub outcome_text : Outcome → List ℕ
 outcome_text outcome =
     count_line (codes "journal ") (length outcome.journal) ++ write_lines 1 outcome.journal

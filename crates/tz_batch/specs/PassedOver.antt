@@ -18,8 +18,8 @@ abbrev pub WasFrontSlot : Batch → Operation → ℕ → ℕ → Type 0
 WasFrontSlot batch operation w slot =
     (v : ℕ) × (start_of batch operation.round ≤ v) × (v ≤ w) × ((newest_at batch v).slot ≡ slot)
 
--- A slot that a version may be kept in: with one lane that is told by its open holds, and with more a hold of another lane may
--- have begun at any position of the round.
+-- A slot that a version may be kept in: with one lane that is told by its open holds, and with more a hold of another
+-- lane may have begun at any position of the round.
 abbrev pub MayBeHeld : Batch → List Answered → Operation → ℕ → ℕ → Type 0
 MayBeHeld batch before operation w slot = by_lanes (batch.script.lanes == 1)
   where

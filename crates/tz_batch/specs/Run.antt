@@ -57,8 +57,8 @@ changes_by number w (write ∷ later) =
     then record { w = w; change = write.change } ∷ changes_by number (suc w) later
     else changes_by number (suc w) later
 
--- The writes of the journal are those that the replies tell of: for each lane the same, in the same order and places, counted
--- from 1 by its number, which is the lane less 1; and there are no others.
+-- The writes of the journal are those that the replies tell of: for each lane the same, in the same order and places,
+-- counted from 1 by its number, which is the lane less 1; and there are no others.
 pub record WritesAreReplies (batch : Batch) : Type 0 where
   pub same : (number : ℕ) → number < batch.script.lanes →
       changes_told batch (number + 1) ≡ changes_by number 1 batch.outcome.journal
@@ -75,8 +75,8 @@ pub record RepliesAreRight (batch : Batch) : Type 0 where
 
 -- ---- the positions ----
 
--- In each round positions are from where it starts to where the next one does, and within a lane and a round none is below the one
--- before it.
+-- In each round positions are from where it starts to where the next one does, and within a lane and a round none is
+-- below the one before it.
 pub record HasPosition (batch : Batch) (before : List Answered) (here : Answered) : Type 0 where
   pub low : position_before batch before here.operation ≤ here.reply.w
   pub high : here.reply.w ≤ start_of batch (here.operation.round + 1)
@@ -113,8 +113,8 @@ SlotsKeep batch =
     (here : Answered) (told : InSlot) → Contains (answered batch) here → Contains (versions_told here.reply.answer) told
     → slice_get (list_at batch here.reply.w).kept told.slot ≡ Some told.n
 
--- Every slot below the one that a push takes is passed over in the list that the push met. With one lane a push is made wherever a
--- slot isn't passed over.
+-- Every slot below the one that a push takes is passed over in the list that the push met. With one lane a push is made
+-- wherever a slot isn't passed over.
 pub record TakesFirstSlot (batch : Batch) (before : List Answered) (operation : Operation) (met slot : ℕ) : Type 0 where
   pub lower : (other : ℕ) → other < slot → IsPassedOver batch before operation met other
   pub exact : batch.script.lanes ≡ 1 → ¬ (IsFull batch before operation met)

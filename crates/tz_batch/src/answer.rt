@@ -25,8 +25,8 @@ pub enum Answer {
     Same { n: u32 },
     /// No slot was free for the version that was to be loaded.
     Full,
-    /// Why the source or the leap text is refused: the file, which is 0 where there is one alone, the line, counted from 1,
-    /// and the number of the cause.
+    /// Why the source or the leap text is refused: the file, which is 0 where there is one alone, the line, counted
+    /// from 1, and the number of the cause.
     Refused { file: u32, line: u32, cause: u8 },
     /// The version behind which one was erased, and the number of that one.
     Erased { n: u32, slot: u32, gone: u32 },

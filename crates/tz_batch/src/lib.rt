@@ -1,7 +1,7 @@
 //! Scripts over the list of versions: what a batch means, and its text.
 //!
-//! A batch runs a script of lookups, holds, reloads and erasures over a list of versions. Its `Outcome` is the journal of
-//! what was pushed and erased, and one reply to each operation. `outcome_text` prints it:
+//! A batch runs a script of lookups, holds, reloads and erasures over a list of versions. Its `Outcome` is the journal
+//! of what was pushed and erased, and one reply to each operation. `outcome_text` prints it:
 //!
 //! ```text
 //! journal 2
@@ -14,11 +14,11 @@
 //! end
 //! ```
 //!
-//! The text settles the journal, and of each reply the line, the position and the text of the answer; of a script that looks
-//! into no version it settles the whole outcome (`laws`). Which outcomes a script may have is defined in specs/Run.antt, for
-//! any number of lanes and rounds. Nothing runs a script yet: the layer that does will stand here, and its promise will be
-//! that definition. The crate stands on `tz_script` for scripts, on
-//! `tz_version` for versions, on `pin_core` for the list, and on `tz_output` for spellings.
+//! The text settles the journal, and of each reply the line, the position and the text of the answer; of a script that
+//! looks into no version it settles the whole outcome (`laws`). Which outcomes a script may have is defined in
+//! specs/Run.antt, for any number of lanes and rounds. Nothing runs a script yet: the layer that does will stand here,
+//! and its promise will be that definition. The crate stands on `tz_script` for scripts, on `tz_version` for versions,
+//! on `pin_core` for the list, and on `tz_output` for spellings.
 #![tactic(auto)]
 
 mod answer;

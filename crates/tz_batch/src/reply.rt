@@ -7,8 +7,8 @@ use crate::answer::{Answer, put_answer};
 use crate::number::put_natural;
 use tz_types::NoMemory;
 
-/// A reply: the line of the operation in the script, counted from 1, the position, which is how many writes stood then, and
-/// the answer.
+/// A reply: the line of the operation in the script, counted from 1, the position, which is how many writes stood then,
+/// and the answer.
 #[derive(Debug, PartialEq, Drop)]
 pub struct Reply {
     pub line: u32,
