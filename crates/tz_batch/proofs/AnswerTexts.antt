@@ -1,5 +1,5 @@
 -- What the text of an answer settles, where the operation is known.
-use Rattle.std.proofs.Common.{◌≡◌, ℕ, zero, suc, ◌+◌, ◌<◌, ◌≤◌, ◌^◌, List, [], ◌∷◌, ◌++◌, length, map, get_or, refl, sym, ap, ◌∙◌, arith, append_assoc}
+use Rattle.std.proofs.Common.{◌≡◌, ℕ, zero, suc, ◌≤◌, List, [], ◌∷◌, ◌++◌, length, map, get_or, refl, sym, ap, ◌∙◌, arith, append_assoc}
 use Rattle.std.specs.Fmt.{decimal}
 use Rattle.std.specs.Prelude.{codes}
 use Rattle.std.proofs.lemmas.Fmt.{decimal_injective}
@@ -15,8 +15,8 @@ use Rattle.tz_batch.specs.Answering.{AnswersLook, AnswersHold, AnswersDrop, Answ
 use Rattle.tz_batch.specs.declared.answer.Answer.{Answer}
 use Rattle.tz_batch.specs.declared.answer.Answer.TheVariants as answers
 use Rattle.tz_batch.specs.declared.listing.Listing.{Listing}
-use Rattle.tz_batch.proofs.NumberCuts.{first_same, rest_same, number_ends, number_before}
-use Rattle.tz_batch.proofs.WriteTexts.{wider, apart, three_pieces, four_pieces}
+use Rattle.tz_batch.proofs.NumberCuts.{number_ends, number_before}
+use Rattle.tz_batch.proofs.WriteTexts.{wider, apart, four_pieces}
 
 abbrev first_byte : List ℕ → ℕ
 first_byte text = get_or text 0 0

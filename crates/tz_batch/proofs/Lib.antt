@@ -4,3 +4,4 @@ pub mod WriteTexts
 pub mod OutcomeTexts
 pub mod AnswerTexts
 pub mod RunTexts
+pub mod FirstRun

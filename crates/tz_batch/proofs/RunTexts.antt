@@ -1,5 +1,5 @@
 -- What the text of a run settles.
-use Rattle.std.proofs.Common.{◌≡◌, ℕ, ◌+◌, ◌<◌, ◌&&◌, Bool, true, false, not, List, [], ◌∷◌, ◌++◌, length, map, take, refl, sym, ap, ◌∙◌, arith, append_assoc}
+use Rattle.std.proofs.Common.{◌≡◌, ℕ, not, List, [], ◌∷◌, ◌++◌, map, take, refl, sym, ap, ◌∙◌, append_assoc}
 use Rattle.std.specs.Prelude.{IsTrue}
 use Rattle.std.specs.List.{All}
 use Rattle.std.proofs.lemmas.List.Elements.{All-head, All-tail}
@@ -12,7 +12,7 @@ use Rattle.pin_core.specs.Replay.{state_after}
 use Rattle.pin_core.specs.declared.write.Write.{Write}
 use Rattle.tz_batch.specs.OutcomeText.{answer_text, outcome_text}
 use Rattle.tz_batch.specs.Fitting.{FitsAnswer, FitsReply, FitsOutcome, ReplyTold, reply_told}
-use Rattle.tz_batch.specs.Batch.{Batch, Answered, each_answered, answered, list_at, row_of}
+use Rattle.tz_batch.specs.Batch.{Batch, Answered, each_answered, answered, row_of}
 use Rattle.tz_batch.specs.Answering.{IsRightReply}
 use Rattle.tz_batch.specs.Run.{EachInTurn, IsRun, is_lookup, have_no_lookup}
 use Rattle.tz_batch.specs.declared.answer.Answer.{Answer}

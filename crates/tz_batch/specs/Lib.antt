@@ -6,3 +6,4 @@ pub mod PassedOver
 pub mod Answering
 pub mod Run
 pub mod Fitting
+pub mod FirstLook
