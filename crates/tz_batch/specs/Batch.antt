@@ -1,0 +1,81 @@
+-- A batch: a script over some sources, in a list of so many slots, with its outcome. A position w is the number of
+-- writes so far.
+use Rattle.std.specs.Prelude.{ℕ, ◌==◌, nat_lt, Bool, true, false, ◌&&◌, List, [], ◌∷◌, Option, Some, None, take, filter, fold, count_by, slice_get}
+use Rattle.tz_types.specs.declared.source.Source.{Source}
+use Rattle.tz_specs.specs.Reads.{version_of}
+use Rattle.tz_script.specs.declared.operation.Operation.{Operation}
+use Rattle.tz_script.specs.declared.script.Script.{Script}
+use Rattle.tz_version.specs.declared.sources.Sources.{Sources}
+use Rattle.pin_core.specs.Replay.{Edition, ListState, state_after, front_of}
+use Rattle.pin_core.specs.declared.listed.Listed.{Listed}
+use Rattle.tz_batch.specs.declared.answer.Answer.{Answer}
+use Rattle.tz_batch.specs.declared.answer.Answer.TheVariants as answers
+use Rattle.tz_batch.specs.declared.outcome.Outcome.{Outcome}
+use Rattle.tz_batch.specs.declared.reply.Reply.{Reply}
+
+pub record Batch : Type 0 where
+  pub script : Script
+  pub sources : Sources
+  pub slots : ℕ
+  pub outcome : Outcome
+
+-- an operation with its reply
+pub record Answered : Type 0 where
+  pub operation : Operation
+  pub reply : Reply
+
+-- operations with replies, each with the one in its place
+abbrev pub each_answered : List Operation → List Reply → List Answered
+each_answered [] replies = []
+each_answered (operation ∷ operations) [] = []
+each_answered (operation ∷ operations) (reply ∷ replies) =
+    record { operation = operation; reply = reply } ∷ each_answered operations replies
+
+-- the operations of a batch with their replies, in the order of the script
+abbrev pub answered : Batch → List Answered
+answered batch = each_answered batch.script.operations batch.outcome.replies
+
+-- the list at a position: that after so many writes of the journal
+abbrev pub list_at : Batch → ℕ → ListState
+list_at batch w = state_after batch.slots (take w batch.outcome.journal)
+
+-- the version at the front at a position
+abbrev pub newest_at : Batch → ℕ → Edition
+newest_at batch w = front_of (list_at batch w).listed
+
+-- the name of the versions of the source at a place: its version text
+abbrev pub name_of_source : Batch → ℕ → List ℕ
+name_of_source batch src = by_source (slice_get batch.sources.texts src)
+  where
+    by_source : Option Source → List ℕ
+    by_source None = []
+    by_source (Some source) = version_of source
+
+-- a listed version with its name
+abbrev pub row_of : Batch → Edition → Listed
+row_of batch edition =
+    record { n = edition.n; src = edition.src; slot = edition.slot; name = name_of_source batch edition.src }
+
+-- the answer tells of a write
+abbrev pub tells_write : Answer → Bool
+tells_write (answers.Pushed n slot) = true
+tells_write (answers.Erased n slot gone) = true
+tells_write _ = false
+
+-- the operation stands in a round before this one, and its reply tells of a write
+abbrev pub is_write_before : ℕ → Answered → Bool
+is_write_before round here = nat_lt here.operation.round round && tells_write here.reply.answer
+
+-- the position at which a round starts: how many writes the replies of the rounds before it tell of
+abbrev pub start_of : Batch → ℕ → ℕ
+start_of batch round = count_by (is_write_before round) (answered batch)
+
+-- the other operation is of the same lane and round
+abbrev pub is_beside : Operation → Answered → Bool
+is_beside operation other =
+    (other.operation.lane == operation.lane) && (other.operation.round == operation.round)
+
+-- the last position of the operation's lane in its round, by the replies before it, or else where the round starts
+abbrev pub position_before : Batch → List Answered → Operation → ℕ
+position_before batch before operation =
+    fold (λ w other. other.reply.w) (start_of batch operation.round) (filter (is_beside operation) before)

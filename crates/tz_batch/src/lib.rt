@@ -1,0 +1,46 @@
+//! Scripts over the list of versions: what a batch means, and its text.
+//!
+//! A batch runs a script of lookups, holds, reloads and erasures over a list of versions. Its `Outcome` is the journal
+//! of what was pushed and erased, and one reply to each operation. `outcome_text` prints it:
+//!
+//! ```text
+//! journal 2
+//! 1 1 1 push 2 1 1
+//! 2 1 2 erase 2 1
+//! replies 3
+//! 3 @0 front 1 0
+//! 4 @0 1 0 info 1710054000 1730613600 -14400 3600 EDT
+//! 12 @2 list 2/1/1
+//! end
+//! ```
+//!
+//! The text settles the journal, and of each reply the line, the position and the text of the answer; of a script that
+//! looks into no version it settles the whole outcome (`laws`). Which outcomes a script may have is defined in
+//! specs/Run.antt, for any number of lanes and rounds. Nothing runs a script yet: the layer that does will stand here,
+//! and its promise will be that definition. The crate stands on `tz_script` for scripts, on `tz_version` for versions,
+//! on `pin_core` for the list, and on `tz_output` for spellings.
+#![tactic(auto)]
+
+mod answer;
+mod found;
+mod laws;
+mod listing;
+mod number;
+mod outcome;
+mod reply;
+mod row;
+mod word;
+mod write_line;
+
+pub use answer::Answer;
+pub use found::Found;
+pub use laws::{
+    a_look_has_a_run, texts_settle_journals, texts_settle_runs_without_lookups,
+    texts_settle_what_replies_tell,
+};
+pub use listing::Listing;
+pub use outcome::{Outcome, outcome_text};
+pub use reply::Reply;
+
+#[cfg(test)]
+mod tests;
