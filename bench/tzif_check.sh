@@ -14,7 +14,7 @@ fi
 build_program tzlist info data/N America/New_York 0 || exit 1
 python3 - "$program" "$text" "$room/zone" <<'PYTHON'
 import os, random, subprocess, sys
-from datetime import datetime
+from datetime import datetime, timezone
 from zoneinfo import ZoneInfo
 
 program, text, file = sys.argv[1:]
@@ -30,9 +30,11 @@ def by_info(name, t):
     return int(fields[2]), fields[4]
 
 
+# Python tells the name by the local time and one bit, so not where three ranges show that time: there it has none.
 def by_python(zone, t):
     told = datetime.fromtimestamp(t, zone)
-    return round(told.utcoffset().total_seconds()), told.tzname()
+    offset = told.replace(tzinfo=None) - datetime.fromtimestamp(t, timezone.utc).replace(tzinfo=None)
+    return round(offset.total_seconds()), told.tzname() if told.utcoffset() == offset else None
 
 
 def by_date(t):
@@ -61,9 +63,11 @@ for name in zones:
     for t in instants(name):
         told = by_info(name, t)
         asked += 1
-        if by_python(zone, t) != told or (has_date and by_date(t) != told):
+        python = by_python(zone, t)
+        date = by_date(t) if has_date else told
+        if python not in (told, (told[0], None)) or date != told:
             wrong += 1
-            print(name, t, told, by_python(zone, t), by_date(t) if has_date else "")
+            print(name, t, told, python, date)
 print("tzif_check: %d zones, %d instants, %d told otherwise" % (len(zones), asked, wrong))
 sys.exit(wrong != 0)
 PYTHON
