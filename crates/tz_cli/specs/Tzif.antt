@@ -1,13 +1,16 @@
 -- What `tzif` answers over a source.
-use Rattle.std.specs.Prelude.{◌≡◌, ℕ, ◌<◌, List, length, None, IsSome, codes, ℤ, pos, neg_ℤ, ◌+ℤ◌, ◌≤ℤ◌}
+use Rattle.std.specs.Prelude.{◌≡◌, ℕ, ◌<◌, ◌↔◌, List, length, Some, None, IsSome, codes, ℤ, pos, neg_ℤ, ◌+ℤ◌, ◌≤ℤ◌, ◌<ℤ◌}
 use Rattle.tz_types.specs.Calendar.{year_start}
 use Rattle.tz_types.specs.declared.range.SysInfo.{SysInfo}
 use Rattle.tz_types.specs.declared.source.Source.{Source}
+use Rattle.tz_specs.specs.Expansion.{range_at}
 use Rattle.tz_expand.specs.declared.compiled_zone.CompiledZone.{CompiledZone}
+use Rattle.tz_expand.specs.Zone.{expansion_of}
 use Rattle.tz_expand.specs.Stretch.{ranges_between}
-use Rattle.tz_tzif.specs.Types.{merged, AreFew, types_of}
+use Rattle.tz_tzif.specs.Types.{type_of, merged, AreFew, types_of}
 use Rattle.tz_tzif.specs.File.{spelling}
 use Rattle.tz_tzif.specs.Answer.{far_index}
+use Rattle.tz_tzif.specs.Meaning.{IsMeaning}
 use Rattle.tz_tzif.specs.declared.local_type.LocalType.{LocalType}
 use Rattle.tz_tzif.specs.declared.tzif_error.TzifError.{TzifError}
 use Rattle.tz_tzif.specs.declared.tzif_error.TzifError.TheVariants as errors
@@ -31,12 +34,21 @@ ranges_of_years first last zone = ranges_between zone (year_start first) (year_s
 abbrev pub types_of_years : ℤ → ℤ → CompiledZone → List LocalType
 types_of_years first last zone = types_of (merged (ranges_of_years first last zone))
 
--- What a zone answers: the file of these years, unless their types are too many to be numbered, or a designation
+-- At each instant of these years the octets mean the one type of the range that holds it: its offset, its abbreviation and
+-- whether there is a save.
+abbrev pub MeansYears : ℤ → ℤ → CompiledZone → List ℕ → Type 0
+MeansYears first last zone file =
+    (t : ℤ) (range : SysInfo) → year_start first ≤ℤ t → t <ℤ year_start (last +ℤ pos 1)
+    → range_at (expansion_of zone) t ≡ Some range
+    → (local_type : LocalType) → IsMeaning file t local_type ↔ (local_type ≡ type_of range)
+
+-- What a zone answers: the file of these years, which means what holds in them, unless their types are too many to be numbered, or a designation
 -- begins too far behind the first.
 abbrev pub IsFileOf : ℤ → ℤ → CompiledZone → Status → List ℕ → Type 0
 IsFileOf first last zone statuses.Ok file =
     let types = types_of_years first last zone in
     AreFew types × (far_index types ≡ None) × (file ≡ spelling (year_start first) (ranges_of_years first last zone))
+    × MeansYears first last zone file
 IsFileOf first last zone statuses.Types line =
     (256 < length (types_of_years first last zone)) × (line ≡ codes "types\n")
 IsFileOf first last zone statuses.Designations line =

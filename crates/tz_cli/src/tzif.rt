@@ -1,9 +1,9 @@
 //! Zones as TZif files (RFC 8536) over civil years, which begin at their first midnight in universal time.
-ghost use Rattle.std.specs.Prelude.{◌≡◌, ◌↔◌, pos, ◌+ℤ◌, IsTrue};
+ghost use Rattle.std.specs.Prelude.{◌≡◌, ◌↔◌, pos, ◌+ℤ◌, IsTrue, IfOk};
 ghost use Rattle.jiff_core.specs.Calendar.{IsYear};
 ghost use Rattle.tz_types.specs.Calendar.{year_start};
 ghost use Rattle.tz_tzif.specs.Answer.{Answers};
-ghost use Rattle.tz_cli.specs.Tzif.{AreYears, IsFileOf, TzifAnswers, ranges_of_years, as_refusal};
+ghost use Rattle.tz_cli.specs.Tzif.{AreYears, MeansYears, IsFileOf, TzifAnswers, ranges_of_years, as_refusal};
 ghost use Rattle.tz_cli.specs.Refusal.{Gives};
 ghost use Rattle.tz_cli.specs.ZoneAnswer.{GivesOfZone};
 
@@ -46,7 +46,8 @@ fn file_of_years(
     last: i32,
 ) -> Result<Vec<u8>, TzifError>
     requires { AreYears first last }
-    ensures { Answers (year_start first) (ranges_of_years first last zone.now) result }
+    ensures answers { Answers (year_start first) (ranges_of_years first last zone.now) result }
+    ensures means { IfOk result (λ file. MeansYears first last zone.now file.items) }
 {
     tz_tzif::tzif(alloc, zone, year_start(first), year_start(last + 1))
 }

@@ -18,8 +18,8 @@ tzif-requires c =
     let end_fits : FitsSigned w64 c.year_start-2.result = search rules in
     rw (to_z-of_z, to_z-of_z, begins, ends) (years_stretch c.args.first c.args.last are)
 
-pub returns : goal.returns
-returns c =
+pub returns-clause-answers : goal.returns-clause-answers
+returns-clause-answers c =
     let first_fits : FitsSigned w32 c.args.first = c.ranges.first in
     let last_fits : FitsSigned w32 c.args.last = c.ranges.last in
     let are : AreYears c.args.first c.args.last = c.requires in
@@ -29,3 +29,15 @@ returns c =
     let begin_fits : FitsSigned w64 c.year_start.result = search rules in
     let end_fits : FitsSigned w64 c.year_start-2.result = search rules in
     let told = rw (begins, ends) at (simp to_z-of_z at c.tzif.ensures.answers) in told
+
+pub returns-clause-means : goal.returns-clause-means
+returns-clause-means c =
+    let first_fits : FitsSigned w32 c.args.first = c.ranges.first in
+    let last_fits : FitsSigned w32 c.args.last = c.ranges.last in
+    let are : AreYears c.args.first c.args.last = c.requires in
+    let later_fits : FitsSigned w32 (c.args.last +ℤ pos 1) = next_fits c.args.first c.args.last are in
+    let begins : c.year_start.result ≡ year_start c.args.first = simp to_z-of_z at c.year_start.ensures in
+    let ends : c.year_start-2.result ≡ year_start (c.args.last +ℤ pos 1) = simp to_z-of_z at c.year_start-2.ensures in
+    let begin_fits : FitsSigned w64 c.year_start.result = search rules in
+    let end_fits : FitsSigned w64 c.year_start-2.result = search rules in
+    let told = rw (begins, ends) at (simp to_z-of_z at c.tzif.ensures.means) in told

@@ -12,8 +12,9 @@ returns-in-Ok c =
     let test = simp to_z-of_z at c.are_years.ensures in
     let are : AreYears c.args.first c.args.last = search rules in
     let is : c.file_of_years.result ≡ Ok c.in-Ok.file = search rules in
-    let given = rw is at (simp to_z-of_z at c.file_of_years.ensures) in
-    (are, given)
+    let given = rw is at (simp to_z-of_z at c.file_of_years.ensures.answers) in
+    let means = rw is at (simp to_z-of_z at c.file_of_years.ensures.means) in
+    (are, (given.0, given.1, given.2, means))
 
 pub returns-in-Err : goal.returns-in-Err
 returns-in-Err c =
@@ -22,5 +23,5 @@ returns-in-Err c =
     let test = simp to_z-of_z at c.are_years.ensures in
     let are : AreYears c.args.first c.args.last = search rules in
     let is : c.file_of_years.result ≡ Err c.in-Err.error = search rules in
-    let given = rw is at (simp to_z-of_z at c.file_of_years.ensures) in
+    let given = rw is at (simp to_z-of_z at c.file_of_years.ensures.answers) in
     rw c.refusal_of.ensures (no_file c.args.first c.args.last c.args.zone.now c.in-Err.error are given)
