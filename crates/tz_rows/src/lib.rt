@@ -10,6 +10,8 @@ mod links;
 #[cfg(test)]
 mod locals;
 #[cfg(test)]
+mod many_files;
+#[cfg(test)]
 mod moves;
 #[cfg(test)]
 mod outside;

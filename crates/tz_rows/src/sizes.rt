@@ -48,7 +48,12 @@ fn with_letters(
 }
 
 /// So many lines, each with its number in the place between the two parts.
-fn numbered(alloc: Global, before: &str, lines: u32, after: &str) -> Result<Vec<u8>, AllocError> {
+pub fn numbered(
+    alloc: Global,
+    before: &str,
+    lines: u32,
+    after: &str,
+) -> Result<Vec<u8>, AllocError> {
     let mut text = Vec::new(alloc);
     for number in 0..lines {
         let line = format!(in alloc; "{before}{number}{after}\n")?;
@@ -58,7 +63,7 @@ fn numbered(alloc: Global, before: &str, lines: u32, after: &str) -> Result<Vec<
 }
 
 /// Lines with one more before them.
-fn first(alloc: Global, line: &str, lines: Vec<u8>) -> Result<Vec<u8>, AllocError> {
+pub fn first(alloc: Global, line: &str, lines: Vec<u8>) -> Result<Vec<u8>, AllocError> {
     let mut text = line.as_bytes().to_vec(alloc)?;
     text.extend_from_slice(lines.as_slice())?;
     Ok(text)
