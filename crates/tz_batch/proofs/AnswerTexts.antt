@@ -32,7 +32,7 @@ version_settled n slot m place fits_x fits_y e =
     (first.0, decimal_injective slot place (wider slot fits_x.1) (wider place fits_y.1) first.1)
 
 -- the same where a space follows
-version_before : (n slot m place : ℕ) (x y : List ℕ) → FitsWord n × FitsWord slot → FitsWord m × FitsWord place
+pub version_before : (n slot m place : ℕ) (x y : List ℕ) → FitsWord n × FitsWord slot → FitsWord m × FitsWord place
     → version_text n slot ++ 32 ∷ x ≡ version_text m place ++ 32 ∷ y → (n ≡ m) × (slot ≡ place) × (x ≡ y)
 version_before n slot m place x y fits_x fits_y e =
     let laid : decimal n ++ 32 ∷ (decimal slot ++ 32 ∷ x) ≡ decimal m ++ 32 ∷ (decimal place ++ 32 ∷ y) = sym (append_assoc (decimal n) (32 ∷ decimal slot) (32 ∷ x)) ∙ e ∙ append_assoc (decimal m) (32 ∷ decimal place) (32 ∷ y) in

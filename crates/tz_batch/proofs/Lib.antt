@@ -3,5 +3,9 @@ pub mod OneLine
 pub mod WriteTexts
 pub mod OutcomeTexts
 pub mod AnswerTexts
+pub mod Fronts
+pub mod OneZone
+pub mod FoundOnce
+pub mod LookupTexts
 pub mod RunTexts
 pub mod FirstRun

@@ -1,5 +1,5 @@
 -- What a run of a script may give: the journal and the replies that fit together, for any number of lanes and rounds.
-use Rattle.std.specs.Prelude.{◌≡◌, ℕ, suc, ◌+◌, ◌-◌, ◌≤◌, ◌<◌, ◌==◌, nat_lt, Bool, true, false, not, if◌then◌else◌, List, [], ◌∷◌, ◌++◌, map, filter_map, Option, Some, None, slice_get, Contains, IsTrue}
+use Rattle.std.specs.Prelude.{◌≡◌, ℕ, suc, ◌+◌, ◌-◌, ◌≤◌, ◌<◌, ◌==◌, nat_lt, if◌then◌else◌, List, [], ◌∷◌, ◌++◌, map, filter_map, Option, Some, None, slice_get, Contains, IsTrue}
 use Rattle.std.specs.List.{list_all}
 use Rattle.tz_script.specs.declared.operation.Operation.{Operation}
 use Rattle.tz_script.specs.declared.script.Script.{Script}
@@ -145,18 +145,3 @@ pub record IsRunOf (batch : Batch) : Type 0 where
 abbrev pub IsRun : Script → Sources → ℕ → Outcome → Type 0
 IsRun script sources slots outcome =
     IsRunOf (record { script = script; sources = sources; slots = slots; outcome = outcome })
-
--- ---- scripts without lookups ----
-
--- the operation looks into a version
-abbrev pub is_lookup : Op → Bool
-is_lookup (ops.Info v zone t) = true
-is_lookup (ops.Local v zone l) = true
-is_lookup (ops.Sys v zone l choose) = true
-is_lookup (ops.Scan v zone from step count) = true
-is_lookup (ops.Clock v conv x) = true
-is_lookup _ = false
-
--- no operation does
-abbrev pub have_no_lookup : List Operation → Bool
-have_no_lookup operations = list_all (λ operation. not (is_lookup operation.op)) operations

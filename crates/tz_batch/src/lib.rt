@@ -35,8 +35,7 @@ mod write_line;
 pub use answer::Answer;
 pub use found::Found;
 pub use laws::{
-    a_look_has_a_run, texts_settle_journals, texts_settle_runs_without_lookups,
-    texts_settle_what_replies_tell,
+    a_look_has_a_run, texts_settle_journals, texts_settle_outcomes, texts_settle_what_replies_tell,
 };
 pub use listing::Listing;
 pub use outcome::{Outcome, outcome_text};
