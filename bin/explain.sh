@@ -1,31 +1,33 @@
 # What a refusal means, in words. It needs the repository's folder in `top` and the program in `program`, and takes its words
 # from docs/FORMATS.md, which has each cause, each form of the commands and each status once.
 
-# The words of a cause: the first row of a table of causes that begins with its number.
-cause_in_words() {
-    awk -F ' *[|] *' -v cause="$1" '
-        $2 == "Cause" { inside = 1 }
-        inside && $2 == cause { print $3; exit }
+# The tables of docs/FORMATS.md that begin with a word, each with its head.
+tables() {
+    awk -F ' *[|] *' -v head="$1" '
+        $2 == head { inside = 1 }
         !/^[|]/ { inside = 0 }
+        inside
     ' "$top/docs/FORMATS.md"
+}
+
+# What their first row that begins with a number has in a column.
+cell() {
+    tables "$1" | awk -F ' *[|] *' -v number="$2" -v column="$3" '$2 == number { print $column; exit }'
+}
+
+# The words of a cause.
+cause_in_words() {
+    cell Cause "$1" 3
 }
 
 # The forms of all commands.
 forms() {
-    awk -F ' *[|] *' '
-        $2 == "Words" { inside = 1 }
-        inside && $2 ~ /^`/ { form = $2; gsub(/`/, "", form); print "  tzlist " form }
-        !/^[|]/ { inside = 0 }
-    ' "$top/docs/FORMATS.md"
+    tables Words | awk -F ' *[|] *' '$2 ~ /^`/ { gsub(/`/, "", $2); print "  tzlist " $2 }'
 }
 
 # What a status comes of.
 status_in_words() {
-    awk -F ' *[|] *' -v status="$1" '
-        $2 == "Status" { inside = 1 }
-        inside && $2 == status { print $4; exit }
-        !/^[|]/ { inside = 0 }
-    ' "$top/docs/FORMATS.md"
+    cell Status "$1" 4
 }
 
 # The file of a word TEXT with that number, from 1 on; a version that is given in front is no file.

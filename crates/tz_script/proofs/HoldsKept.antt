@@ -8,14 +8,14 @@ use Rattle.tz_types.specs.declared.fault.LineFault.{LineFault}
 use Rattle.tz_specs.specs.Choice.{◌>>=◌}
 use Rattle.tz_specs.specs.Day.{or_else}
 use Rattle.tz_specs.specs.Line.{lines_of}
-use Rattle.tz_script.specs.Cause.{least_cause, fault_at}
-use Rattle.tz_script.specs.Contents.{Contents, no_contents, first_left, with_said}
+use Rattle.tz_script.specs.Cause.{least_script_cause, script_fault_at}
+use Rattle.tz_script.specs.Contents.{ScriptContents, no_script_contents, first_left, with_line_said}
 use Rattle.tz_script.specs.Holds.{is_open, first_line, holds_after}
 use Rattle.tz_script.specs.Keeping.{ops_in, is_named, may_begin, has_needed, may_stand, names_open, KeepsHolds, is_there, KeepsSources}
-use Rattle.tz_script.specs.Line.{lanes_said, round_causes, lane_causes, operation_causes, operation_said, lane_of, is_round, word_causes, words_say, line_causes, unless_cause, line_says, is_held_twice, is_unknown, is_crowded, is_missing, is_late, standing_causes}
+use Rattle.tz_script.specs.Line.{lanes_said, round_causes, lane_causes, operation_causes, operation_said, lane_of, is_round, word_causes, words_say, script_line_causes, unless_refused, script_line_says, is_held_twice, is_unknown, is_crowded, is_missing, is_late, standing_causes}
 use Rattle.tz_script.specs.OpWords.{op_said}
 use Rattle.tz_script.specs.Operation.{hold_begun, hold_needed, source_asked}
-use Rattle.tz_script.specs.Script.{contents_after, contents_of, are_blank, blank_fault, whole_fault, ReadsScript}
+use Rattle.tz_script.specs.Script.{script_contents_after, script_contents_of, are_blank, blank_fault, whole_fault, ReadsScript}
 use Rattle.tz_script.specs.Words.{line_words}
 use Rattle.tz_script.specs.declared.cause.ScriptCause.{ScriptCause}
 use Rattle.tz_script.specs.declared.cause.ScriptCause.TheVariants as causes
@@ -29,17 +29,17 @@ use Rattle.tz_script.proofs.Reading.{after_none, after_said, after_cause}
 use Rattle.tz_script.proofs.HoldRules.{names_in, open_is_named, count_in, names_of_lane, names_of_others, pushed_in, pushed_elsewhere, open_pushed}
 
 -- The operation that is said has no cause by what stands before it.
-abbrev MayStand : ℕ → Contents → Option Said → Type 0
-MayStand sources contents (Some (said.Operation lane op)) = least_cause (standing_causes sources contents lane op) ≡ None
+abbrev MayStand : ℕ → ScriptContents → Option Said → Type 0
+MayStand sources contents (Some (said.Operation lane op)) = least_script_cause (standing_causes sources contents lane op) ≡ None
 MayStand sources contents _ = Unit {0}
 
-three_of_five : (a b c d e : Bool) → least_cause ((causes.HoldTwice, a) ∷ (causes.HoldUnknown, b) ∷ (causes.TooManyHolds, c) ∷ (causes.SourceIndex, d) ∷ (causes.Limit, e) ∷ []) ≡ None → (a ≡ false) × (b ≡ false) × (c ≡ false)
+three_of_five : (a b c d e : Bool) → least_script_cause ((causes.HoldTwice, a) ∷ (causes.HoldUnknown, b) ∷ (causes.TooManyHolds, c) ∷ (causes.SourceIndex, d) ∷ (causes.Limit, e) ∷ []) ≡ None → (a ≡ false) × (b ≡ false) × (c ≡ false)
 three_of_five false false false d e h = (refl, refl, refl)
 three_of_five true b c d e h = cc
 three_of_five false true c d e h = cc
 three_of_five false false true d e h = cc
 
-behind_two : (a b : Bool) (rows : List (ScriptCause × Bool)) → least_cause ((causes.Op, a) ∷ (causes.Operand, b) ∷ rows) ≡ None → least_cause rows ≡ None
+behind_two : (a b : Bool) (rows : List (ScriptCause × Bool)) → least_script_cause ((causes.Op, a) ∷ (causes.Operand, b) ∷ rows) ≡ None → least_script_cause rows ≡ None
 behind_two false false rows h = h
 behind_two true b rows h = cc
 behind_two false true rows h = cc
@@ -66,12 +66,12 @@ needs_well lane holds (Some name) known =
     by_test true h = refl
     by_test false h = cc
 
-stands_well : (sources : ℕ) (contents : Contents) (lane : ℕ) (op : Op) → least_cause (standing_causes sources contents lane op) ≡ None → may_stand (names_in lane contents.holds) op ≡ true
+stands_well : (sources : ℕ) (contents : ScriptContents) (lane : ℕ) (op : Op) → least_script_cause (standing_causes sources contents lane op) ≡ None → may_stand (names_in lane contents.holds) op ≡ true
 stands_well sources contents lane op none =
     let facts = three_of_five (is_held_twice lane contents.holds (hold_begun op)) (is_unknown lane contents.holds (hold_needed op)) (is_crowded lane contents.holds (hold_begun op)) (is_missing sources (source_asked op)) (is_late contents op) none in
     rw (begins_well lane contents.holds (hold_begun op) facts.0 facts.2) (needs_well lane contents.holds (hold_needed op) facts.1)
 
-by_parts : (sources : ℕ) (contents : Contents) (a b : Bool) (lane_word : Option ℕ) (op_words : Option Op) (lane : ℕ) (op : Op) → least_cause ((causes.Op, a) ∷ (causes.Operand, b) ∷ lane_causes sources contents lane_word op_words) ≡ None → (lane_word >>= λ it. op_words >>= λ does. Some (said.Operation it does)) ≡ Some (said.Operation lane op) → least_cause (standing_causes sources contents lane op) ≡ None
+by_parts : (sources : ℕ) (contents : ScriptContents) (a b : Bool) (lane_word : Option ℕ) (op_words : Option Op) (lane : ℕ) (op : Op) → least_script_cause ((causes.Op, a) ∷ (causes.Operand, b) ∷ lane_causes sources contents lane_word op_words) ≡ None → (lane_word >>= λ it. op_words >>= λ does. Some (said.Operation it does)) ≡ Some (said.Operation lane op) → least_script_cause (standing_causes sources contents lane op) ≡ None
 by_parts sources contents a b None op_words lane op none e = cc
 by_parts sources contents a b (Some it) None lane op none e = cc
 by_parts sources contents a b (Some it) (Some does) lane op none e =
@@ -84,12 +84,12 @@ not_lanes : (lanes : Option ℕ) (lane : ℕ) (op : Op) → option_map said.Lane
 not_lanes None lane op e = cc
 not_lanes (Some lanes) lane op e = cc
 
-by_round : (sources : ℕ) (contents : Contents) (lanes : ℕ) (word : List ℕ) (words : List (List ℕ)) (round : Bool) (lane : ℕ) (op : Op) → least_cause (if round then round_causes contents words else operation_causes sources contents lanes word words) ≡ None → (if round then Some said.Round else operation_said lanes word words) ≡ Some (said.Operation lane op) → least_cause (standing_causes sources contents lane op) ≡ None
+by_round : (sources : ℕ) (contents : ScriptContents) (lanes : ℕ) (word : List ℕ) (words : List (List ℕ)) (round : Bool) (lane : ℕ) (op : Op) → least_script_cause (if round then round_causes contents words else operation_causes sources contents lanes word words) ≡ None → (if round then Some said.Round else operation_said lanes word words) ≡ Some (said.Operation lane op) → least_script_cause (standing_causes sources contents lane op) ≡ None
 by_round sources contents lanes word words true lane op none e = cc
 by_round sources contents lanes word words false lane op none e =
     by_parts sources contents _ _ (lane_of lanes word) (op_said words) lane op none e
 
-by_words : (sources : ℕ) (contents : Contents) (lanes : Option ℕ) (words : List (List ℕ)) (it : Option Said) → least_cause (word_causes sources contents lanes words) ≡ None → words_say lanes words ≡ it → MayStand sources contents it
+by_words : (sources : ℕ) (contents : ScriptContents) (lanes : Option ℕ) (words : List (List ℕ)) (it : Option Said) → least_script_cause (word_causes sources contents lanes words) ≡ None → words_say lanes words ≡ it → MayStand sources contents it
 by_words sources contents lanes words None none e = tt
 by_words sources contents lanes words (Some (said.Lanes count)) none e = tt
 by_words sources contents lanes words (Some said.Round) none e = tt
@@ -100,19 +100,19 @@ by_words sources contents None (word ∷ words) (Some (said.Operation lane op)) 
 by_words sources contents (Some lanes) (word ∷ words) (Some (said.Operation lane op)) none e =
     by_round sources contents lanes word words (is_round word) lane op none e
 
-ok_parts : (told : Option ScriptCause) (it other : Option Said) → unless_cause told it ≡ Ok other → (told ≡ None) × (it ≡ other)
+ok_parts : (told : Option ScriptCause) (it other : Option Said) → unless_refused told it ≡ Ok other → (told ≡ None) × (it ≡ other)
 ok_parts None it other e = (refl, cc)
 ok_parts (Some cause) it other e = cc
 
-behind_one : (a : Bool) (rows : List (ScriptCause × Bool)) → least_cause ((causes.Line, a) ∷ rows) ≡ None → least_cause rows ≡ None
+behind_one : (a : Bool) (rows : List (ScriptCause × Bool)) → least_script_cause ((causes.Line, a) ∷ rows) ≡ None → least_script_cause rows ≡ None
 behind_one false rows h = h
 behind_one true rows h = cc
 
 -- what a line says may stand where it does
-said_stands : (sources : ℕ) (contents : Contents) (line : List ℕ) (it : Option Said) → line_says sources contents line ≡ Ok it → MayStand sources contents it
-unfolding line_says
+said_stands : (sources : ℕ) (contents : ScriptContents) (line : List ℕ) (it : Option Said) → script_line_says sources contents line ≡ Ok it → MayStand sources contents it
+unfolding script_line_says
 said_stands sources contents line it e =
-    let parts = ok_parts (least_cause (line_causes sources contents line)) (words_say contents.lanes (line_words line)) it e in
+    let parts = ok_parts (least_script_cause (script_line_causes sources contents line)) (words_say contents.lanes (line_words line)) it e in
     by_words sources contents contents.lanes (line_words line) it (behind_one _ (word_causes sources contents contents.lanes (line_words line)) parts.0) parts.1
 
 -- The round that was begun last has these holds open; those before it have none, where none was left open; and there is
@@ -122,7 +122,7 @@ record AreKept (rounds : ℕ) (operations : List Operation) (holds : List OpenHo
   earlier : left ≡ None → (lane round : ℕ) → round < rounds → names_open [] (ops_in lane round operations) ≡ Some []
   later : (lane round : ℕ) → rounds < round → ops_in lane round operations ≡ []
 
-abbrev AreHeld : Contents → Type 0
+abbrev AreHeld : ScriptContents → Type 0
 AreHeld contents = AreKept contents.rounds contents.operations contents.holds contents.left
 
 none_left : (left : Option ℕ) (holds : List OpenHold) → or_else left (first_line holds) ≡ None → (left ≡ None) × (holds ≡ [])
@@ -211,7 +211,7 @@ operation_done number rounds lane op operations holds left may kept =
         (cases_Bool (lane == other))
 
 -- one more line
-still_held : (sources number : ℕ) (contents : Contents) (it : Option Said) → MayStand sources contents it → AreHeld contents → AreHeld (with_said number it contents)
+still_held : (sources number : ℕ) (contents : ScriptContents) (it : Option Said) → MayStand sources contents it → AreHeld contents → AreHeld (with_line_said number it contents)
 still_held sources number contents None may held = held
 still_held sources number contents (Some (said.Lanes lanes)) may held = held
 still_held sources number contents (Some said.Round) may held =
@@ -220,22 +220,22 @@ still_held sources number contents (Some (said.Operation lane op)) may held =
     operation_done number contents.rounds lane op contents.operations contents.holds contents.left (stands_well sources contents lane op may) held
 
 -- what each line keeps, all lines keep
-kept_after : (P : Contents → Type 0) (sources : ℕ) (step : (number : ℕ) (contents : Contents) (it : Option Said) → MayStand sources contents it → P contents → P (with_said number it contents)) (lines : List (List ℕ)) (contents : Contents) (number : ℕ) (after : Contents) → P contents → contents_after sources contents number lines ≡ Ok after → P after
+kept_after : (P : ScriptContents → Type 0) (sources : ℕ) (step : (number : ℕ) (contents : ScriptContents) (it : Option Said) → MayStand sources contents it → P contents → P (with_line_said number it contents)) (lines : List (List ℕ)) (contents : ScriptContents) (number : ℕ) (after : ScriptContents) → P contents → script_contents_after sources contents number lines ≡ Ok after → P after
 kept_after P sources step [] contents number after kept e =
     let all : Ok contents ≡ Ok after = sym (after_none sources contents number) ∙ e in
     let same : contents ≡ after = cc in subst P same kept
 kept_after P sources step (line ∷ lines) contents number after kept e =
-    by_line (line_says sources contents line) refl e
-    (λ (it : Option Said) (next : P (with_said number it contents)) (given : contents_after sources (with_said number it contents) (number + 1) lines ≡ Ok after). kept_after P sources step lines (with_said number it contents) (number + 1) after next given)
+    by_line (script_line_says sources contents line) refl e
+    (λ (it : Option Said) (next : P (with_line_said number it contents)) (given : script_contents_after sources (with_line_said number it contents) (number + 1) lines ≡ Ok after). kept_after P sources step lines (with_line_said number it contents) (number + 1) after next given)
   where
-    by_line : (outcome : Result (Option Said) ScriptCause) → line_says sources contents line ≡ outcome → contents_after sources contents number (line ∷ lines) ≡ Ok after → ((it : Option Said) → P (with_said number it contents) → contents_after sources (with_said number it contents) (number + 1) lines ≡ Ok after → P after) → P after
+    by_line : (outcome : Result (Option Said) ScriptCause) → script_line_says sources contents line ≡ outcome → script_contents_after sources contents number (line ∷ lines) ≡ Ok after → ((it : Option Said) → P (with_line_said number it contents) → script_contents_after sources (with_line_said number it contents) (number + 1) lines ≡ Ok after → P after) → P after
     by_line (Ok it) says given next =
         next it (step number contents it (said_stands sources contents line it says) kept) (sym (after_said sources contents number line lines it says) ∙ given)
     by_line (Err cause) says given next =
-        let fault : Err (fault_at number cause) ≡ Ok after = sym (after_cause sources contents number line lines cause says) ∙ given in
+        let fault : Err (script_fault_at number cause) ≡ Ok after = sym (after_cause sources contents number line lines cause says) ∙ given in
         cc
 
-none_held : AreHeld no_contents
+none_held : AreHeld no_script_contents
 none_held =
     record {
       here = λ lane. refl;
@@ -243,16 +243,16 @@ none_held =
       later = λ lane round behind. refl;
     }
 
-kept_of : (P : Contents → Type 0) (sources : ℕ) (step : (number : ℕ) (contents : Contents) (it : Option Said) → MayStand sources contents it → P contents → P (with_said number it contents)) (text : List ℕ) (contents : Contents) → P no_contents → contents_of sources text ≡ Ok contents → P contents
-unfolding contents_of
+kept_of : (P : ScriptContents → Type 0) (sources : ℕ) (step : (number : ℕ) (contents : ScriptContents) (it : Option Said) → MayStand sources contents it → P contents → P (with_line_said number it contents)) (text : List ℕ) (contents : ScriptContents) → P no_script_contents → script_contents_of sources text ≡ Ok contents → P contents
+unfolding script_contents_of
 kept_of P sources step text contents none e =
-    by_test (are_blank (lines_of text)) (blank_fault (lines_of text)) (contents_after sources no_contents 1 (lines_of text)) e (λ (given : contents_after sources no_contents 1 (lines_of text) ≡ Ok contents). kept_after P sources step (lines_of text) no_contents 1 contents none given)
+    by_test (are_blank (lines_of text)) (blank_fault (lines_of text)) (script_contents_after sources no_script_contents 1 (lines_of text)) e (λ (given : script_contents_after sources no_script_contents 1 (lines_of text) ≡ Ok contents). kept_after P sources step (lines_of text) no_script_contents 1 contents none given)
   where
-    by_test : (blank : Bool) (fault : LineFault) (given : Result Contents LineFault) → (if blank then Err fault else given) ≡ Ok contents → (given ≡ Ok contents → P contents) → P contents
+    by_test : (blank : Bool) (fault : LineFault) (given : Result ScriptContents LineFault) → (if blank then Err fault else given) ≡ Ok contents → (given ≡ Ok contents → P contents) → P contents
     by_test true fault given e next = cc
     by_test false fault given e next = next e
 
-no_left : (lanes left : Option ℕ) (contents : Contents) → contents.lanes ≡ lanes → first_left contents ≡ left → whole_fault contents ≡ None → first_left contents ≡ None
+no_left : (lanes left : Option ℕ) (contents : ScriptContents) → contents.lanes ≡ lanes → first_left contents ≡ left → whole_fault contents ≡ None → first_left contents ≡ None
 no_left None left contents lanes is none = let told = rw lanes at none in cc
 no_left (Some count) None contents lanes is none = is
 no_left (Some count) (Some line) contents lanes is none = let told = rw (lanes, is) at none in cc
@@ -266,18 +266,18 @@ script_keeps_holds sources text script read =
     let keeps = all_dropped contents.rounds contents.operations contents.holds contents.left held dropped in
     rw read.operations keeps
 
-fourth_of_five : (a b c d e : Bool) → least_cause ((causes.HoldTwice, a) ∷ (causes.HoldUnknown, b) ∷ (causes.TooManyHolds, c) ∷ (causes.SourceIndex, d) ∷ (causes.Limit, e) ∷ []) ≡ None → d ≡ false
+fourth_of_five : (a b c d e : Bool) → least_script_cause ((causes.HoldTwice, a) ∷ (causes.HoldUnknown, b) ∷ (causes.TooManyHolds, c) ∷ (causes.SourceIndex, d) ∷ (causes.Limit, e) ∷ []) ≡ None → d ≡ false
 fourth_of_five a b c false e h = refl
 fourth_of_five true b c true e h = cc
 fourth_of_five false true c true e h = cc
 fourth_of_five false false true true e h = cc
 fourth_of_five false false false true e h = cc
 
-abbrev AreKnown : ℕ → Contents → Type 0
+abbrev AreKnown : ℕ → ScriptContents → Type 0
 AreKnown sources contents = KeepsSources sources contents.operations
 
 -- one more line asks for no text that isn't there
-still_known : (sources number : ℕ) (contents : Contents) (it : Option Said) → MayStand sources contents it → AreKnown sources contents → AreKnown sources (with_said number it contents)
+still_known : (sources number : ℕ) (contents : ScriptContents) (it : Option Said) → MayStand sources contents it → AreKnown sources contents → AreKnown sources (with_line_said number it contents)
 still_known sources number contents None may known = known
 still_known sources number contents (Some (said.Lanes lanes)) may known = known
 still_known sources number contents (Some said.Round) may known = known

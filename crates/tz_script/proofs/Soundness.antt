@@ -7,9 +7,9 @@ use Rattle.std.proofs.lemmas.List.Folds.{list_all-append}
 use Rattle.std.proofs.lemmas.List.Sums.{sum_by-append}
 use Rattle.tz_types.specs.Civil.{is_from_to}
 use Rattle.tz_types.specs.Order.{ascends, ascends_after}
-use Rattle.tz_script.specs.Cause.{least_cause}
-use Rattle.tz_script.specs.Contents.{Contents}
-use Rattle.tz_script.specs.Inside.{lane_count, is_inside, stands_before, are_before, change_count, IsSound}
+use Rattle.tz_script.specs.Cause.{least_script_cause}
+use Rattle.tz_script.specs.Contents.{ScriptContents}
+use Rattle.tz_script.specs.Inside.{lane_count, is_inside, stands_before, all_stand_before, change_count, IsOrderly}
 use Rattle.tz_script.specs.Line.{standing_causes, is_held_twice, is_unknown, is_crowded, is_missing, is_late}
 use Rattle.tz_script.specs.Operation.{is_change, hold_begun, hold_needed, source_asked}
 use Rattle.tz_script.specs.Size.{IsSized, AreSized}
@@ -36,34 +36,34 @@ later_line : (line number : ℕ) → nat_lt line number ≡ true → nat_lt line
 later_line line number h = grind arith
 
 -- what stands before a line stands before the next
-pub before_next : (number : ℕ) (operations : List Operation) → are_before number operations ≡ true → are_before (number + 1) operations ≡ true
+pub before_next : (number : ℕ) (operations : List Operation) → all_stand_before number operations ≡ true → all_stand_before (number + 1) operations ≡ true
 before_next number [] h = refl
 before_next number (operation ∷ operations) h =
-    let both = and_parts (nat_lt operation.line number) (are_before number operations) h in
-    and_true (nat_lt operation.line (number + 1)) (are_before (number + 1) operations) (later_line operation.line number both.0) (before_next number operations both.1)
+    let both = and_parts (nat_lt operation.line number) (all_stand_before number operations) h in
+    and_true (nat_lt operation.line (number + 1)) (all_stand_before (number + 1) operations) (later_line operation.line number both.0) (before_next number operations both.1)
 
 this_line : (number : ℕ) → nat_lt number (number + 1) ≡ true
 this_line number = grind arith
 
 -- the operation of a line stands before the next line
-pub before_pushed : (number : ℕ) (operations : List Operation) (operation : Operation) → operation.line ≡ number → are_before number operations ≡ true → are_before (number + 1) (operations ++ operation ∷ []) ≡ true
+pub before_pushed : (number : ℕ) (operations : List Operation) (operation : Operation) → operation.line ≡ number → all_stand_before number operations ≡ true → all_stand_before (number + 1) (operations ++ operation ∷ []) ≡ true
 before_pushed number operations operation e h =
     list_all-append (λ (it : Operation). nat_lt it.line (number + 1)) operations (operation ∷ [])
-    ∙ and_true (are_before (number + 1) operations) (are_before (number + 1) (operation ∷ [])) (before_next number operations h)
+    ∙ and_true (all_stand_before (number + 1) operations) (all_stand_before (number + 1) (operation ∷ [])) (before_next number operations h)
     (and_true (nat_lt operation.line (number + 1)) true (rw e (this_line number)) refl)
 
-after_pushed : (first : Operation) (operations : List Operation) (operation : Operation) → ascends_after stands_before first operations ≡ true → are_before operation.line (first ∷ operations) ≡ true → ascends_after stands_before first (operations ++ operation ∷ []) ≡ true
+after_pushed : (first : Operation) (operations : List Operation) (operation : Operation) → ascends_after stands_before first operations ≡ true → all_stand_before operation.line (first ∷ operations) ≡ true → ascends_after stands_before first (operations ++ operation ∷ []) ≡ true
 after_pushed first [] operation rising before = before
 after_pushed first (next ∷ operations) operation rising before =
     let both = and_parts (stands_before first next) (ascends_after stands_before next operations) rising in
-    let later = and_parts (nat_lt first.line operation.line) (are_before operation.line (next ∷ operations)) before in
+    let later = and_parts (nat_lt first.line operation.line) (all_stand_before operation.line (next ∷ operations)) before in
     and_true (stands_before first next) (ascends_after stands_before next (operations ++ operation ∷ [])) both.0 (after_pushed next operations operation both.1 later.1)
 
-rising_pushed : (operations : List Operation) (operation : Operation) → ascends stands_before operations ≡ true → are_before operation.line operations ≡ true → ascends stands_before (operations ++ operation ∷ []) ≡ true
+rising_pushed : (operations : List Operation) (operation : Operation) → ascends stands_before operations ≡ true → all_stand_before operation.line operations ≡ true → ascends stands_before (operations ++ operation ∷ []) ≡ true
 rising_pushed [] operation rising before = refl
 rising_pushed (first ∷ operations) operation rising before = after_pushed first operations operation rising before
 
-pub sound_lanes : (lanes rounds : ℕ) (operations : List Operation) → 1 ≤ lanes → lanes ≤ 16 → IsSound None rounds operations → IsSound (Some lanes) rounds operations
+pub sound_lanes : (lanes rounds : ℕ) (operations : List Operation) → 1 ≤ lanes → lanes ≤ 16 → IsOrderly None rounds operations → IsOrderly (Some lanes) rounds operations
 sound_lanes lanes rounds operations low high sound =
     record {
       lanes_in = grind arith;
@@ -72,7 +72,7 @@ sound_lanes lanes rounds operations low high sound =
       rising = sound.rising;
     }
 
-pub sound_round : (lanes : Option ℕ) (rounds : ℕ) (operations : List Operation) → IsSound lanes rounds operations → IsSound lanes (rounds + 1) operations
+pub sound_round : (lanes : Option ℕ) (rounds : ℕ) (operations : List Operation) → IsOrderly lanes rounds operations → IsOrderly lanes (rounds + 1) operations
 sound_round lanes rounds operations sound =
     record {
       lanes_in = sound.lanes_in;
@@ -84,7 +84,7 @@ sound_round lanes rounds operations sound =
 within : (low high n : ℕ) → low ≤ n → n ≤ high → is_from_to low high n ≡ true
 within low high n le ge = grind arith
 
-pub sound_operation : (lanes : Option ℕ) (rounds : ℕ) (operations : List Operation) (operation : Operation) → IsSound lanes rounds operations → length operations < 65_536 → operation.round ≡ rounds → 1 ≤ rounds → 1 ≤ operation.lane → operation.lane ≤ lane_count lanes → are_before operation.line operations ≡ true → IsSound lanes rounds (operations ++ operation ∷ [])
+pub sound_operation : (lanes : Option ℕ) (rounds : ℕ) (operations : List Operation) (operation : Operation) → IsOrderly lanes rounds operations → length operations < 65_536 → operation.round ≡ rounds → 1 ≤ rounds → 1 ≤ operation.lane → operation.lane ≤ lane_count lanes → all_stand_before operation.line operations ≡ true → IsOrderly lanes rounds (operations ++ operation ∷ [])
 sound_operation lanes rounds operations operation sound room here begun low high before =
     record {
       lanes_in = sound.lanes_in;
@@ -105,7 +105,7 @@ counted_pushed operations operation =
     zero_plus : (n : ℕ) → 0 + n ≡ n
     zero_plus n = omega arith
 
-last_of_five : (a b c d e : Bool) → least_cause ((causes.HoldTwice, a) ∷ (causes.HoldUnknown, b) ∷ (causes.TooManyHolds, c) ∷ (causes.SourceIndex, d) ∷ (causes.Limit, e) ∷ []) ≡ None → e ≡ false
+last_of_five : (a b c d e : Bool) → least_script_cause ((causes.HoldTwice, a) ∷ (causes.HoldUnknown, b) ∷ (causes.TooManyHolds, c) ∷ (causes.SourceIndex, d) ∷ (causes.Limit, e) ∷ []) ≡ None → e ≡ false
 last_of_five a b c d false h = refl
 last_of_five true b c d true h = cc
 last_of_five false true c d true h = cc
@@ -114,16 +114,16 @@ last_of_five false false false true true h = cc
 last_of_five false false false false true h = cc
 
 -- an operation without a cause isn't one too many
-pub not_late : (sources : ℕ) (contents : Contents) (lane : ℕ) (op : Op) → least_cause (standing_causes sources contents lane op) ≡ None → IsTrue (not (is_late contents op))
+pub not_late : (sources : ℕ) (contents : ScriptContents) (lane : ℕ) (op : Op) → least_script_cause (standing_causes sources contents lane op) ≡ None → IsTrue (not (is_late contents op))
 not_late sources contents lane op none =
     let late = last_of_five (is_held_twice lane contents.holds (hold_begun op)) (is_unknown lane contents.holds (hold_needed op)) (is_crowded lane contents.holds (hold_begun op)) (is_missing sources (source_asked op)) (is_late contents op) none in
     rw late refl
 
 -- how many operations and changes there are where one more isn't too many
-pub room_for_operation : (contents : Contents) (op : Op) → IsTrue (not (is_late contents op)) → length contents.operations < 65_536
+pub room_for_operation : (contents : ScriptContents) (op : Op) → IsTrue (not (is_late contents op)) → length contents.operations < 65_536
 room_for_operation contents op may = grind arith
 
-pub room_for_change : (contents : Contents) (op : Op) → IsTrue (not (is_late contents op)) → contents.changes ≤ 4_096 → contents.changes + cond (is_change op) 1 0 ≤ 4_096
+pub room_for_change : (contents : ScriptContents) (op : Op) → IsTrue (not (is_late contents op)) → contents.changes ≤ 4_096 → contents.changes + cond (is_change op) 1 0 ≤ 4_096
 room_for_change contents op may few = by_change (is_change op) (length contents.operations) contents.changes may few
   where
     by_change : (change : Bool) (operations changes : ℕ) → IsTrue (not (nat_le 65_536 operations || (change && nat_le 4_096 changes))) → changes ≤ 4_096 → changes + cond change 1 0 ≤ 4_096

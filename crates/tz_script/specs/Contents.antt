@@ -11,7 +11,7 @@ use Rattle.tz_script.specs.declared.said.Said.TheVariants as said
 -- How many lanes there are, once a line has said so; how many rounds have begun; the operations, in the order of their
 -- lines; how many of them are reloads or erasures; the holds that are open in this round; and the line of the first
 -- hold that wasn't dropped in an earlier one.
-pub record Contents : Type 0 where
+pub record ScriptContents : Type 0 where
   pub lanes : Option ℕ
   pub rounds : ℕ
   pub operations : List Operation
@@ -20,17 +20,17 @@ pub record Contents : Type 0 where
   pub left : Option ℕ
 
 -- before any line
-abbrev pub no_contents : Contents
-no_contents = record { lanes = None; rounds = 0; operations = []; changes = 0; holds = []; left = None }
+abbrev pub no_script_contents : ScriptContents
+no_script_contents = record { lanes = None; rounds = 0; operations = []; changes = 0; holds = []; left = None }
 
 -- the line of the first hold that isn't dropped in its round, where the last round ends here
-abbrev pub first_left : Contents → Option ℕ
+abbrev pub first_left : ScriptContents → Option ℕ
 first_left contents = or_else contents.left (first_line contents.holds)
 
 -- the contents with what one more line says, by its number; a blank one says nothing
-abbrev pub with_said : ℕ → Option Said → Contents → Contents
-with_said number None contents = contents
-with_said number (Some (said.Lanes lanes)) contents =
+abbrev pub with_line_said : ℕ → Option Said → ScriptContents → ScriptContents
+with_line_said number None contents = contents
+with_line_said number (Some (said.Lanes lanes)) contents =
     record {
       lanes = Some lanes;
       rounds = contents.rounds;
@@ -39,7 +39,7 @@ with_said number (Some (said.Lanes lanes)) contents =
       holds = contents.holds;
       left = contents.left;
     }
-with_said number (Some said.Round) contents =
+with_line_said number (Some said.Round) contents =
     record {
       lanes = contents.lanes;
       rounds = contents.rounds + 1;
@@ -48,7 +48,7 @@ with_said number (Some said.Round) contents =
       holds = [];
       left = first_left contents;
     }
-with_said number (Some (said.Operation lane op)) contents =
+with_line_said number (Some (said.Operation lane op)) contents =
     record {
       lanes = contents.lanes;
       rounds = contents.rounds;

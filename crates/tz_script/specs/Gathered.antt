@@ -1,7 +1,7 @@
 -- What the contents that a script has given so far stand for, and what may follow them.
 use Rattle.std.specs.Prelude.{◌≡◌, ◌<◌, ◌≤◌, not, Option, Some, None, IsTrue}
 use Rattle.std.specs.Int.{IsInRange}
-use Rattle.tz_script.specs.Contents.{Contents}
+use Rattle.tz_script.specs.Contents.{ScriptContents}
 use Rattle.tz_script.specs.Inside.{lane_count}
 use Rattle.tz_script.specs.Limit.{most_lanes, most_rounds}
 use Rattle.tz_script.specs.Line.{is_late}
@@ -10,8 +10,8 @@ use Rattle.tz_script.specs.declared.gathered.Gathered.{Gathered}
 use Rattle.tz_script.specs.declared.said.Said.{Said}
 use Rattle.tz_script.specs.declared.said.Said.TheVariants as said
 
-abbrev pub contents_gathered : Gathered → Contents
-contents_gathered gathered =
+abbrev pub script_contents_gathered : Gathered → ScriptContents
+script_contents_gathered gathered =
     record {
       lanes = gathered.lanes;
       rounds = gathered.rounds;
@@ -28,13 +28,13 @@ AreLanes _ = ⊥
 
 -- What is said may stand behind the contents: no line has said yet how many lanes there are, the round isn't one too
 -- many, or the operation has its lane and a round, isn't one too many, and has numbers of their size.
-abbrev pub MayFollow : Contents → Said → Type 0
+abbrev pub MayFollow : ScriptContents → Said → Type 0
 MayFollow contents (said.Lanes lanes) = (contents.lanes ≡ None) × IsInRange 1 most_lanes lanes
 MayFollow contents said.Round = contents.rounds < most_rounds
 MayFollow contents (said.Operation lane op) =
     (1 ≤ contents.rounds) × IsInRange 1 (lane_count contents.lanes) lane × IsTrue (not (is_late contents op)) × IsSized op
 
 -- a blank line may stand anywhere
-abbrev pub MayBeNext : Contents → Option Said → Type 0
+abbrev pub MayBeNext : ScriptContents → Option Said → Type 0
 MayBeNext contents None = Unit {0}
 MayBeNext contents (Some said) = MayFollow contents said

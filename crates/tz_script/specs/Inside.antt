@@ -26,15 +26,15 @@ abbrev pub stands_before : Operation → Operation → Bool
 stands_before a b = nat_lt a.line b.line
 
 -- all operations stand at lines before this one
-abbrev pub are_before : ℕ → List Operation → Bool
-are_before number operations = list_all (λ operation. nat_lt operation.line number) operations
+abbrev pub all_stand_before : ℕ → List Operation → Bool
+all_stand_before number operations = list_all (λ operation. nat_lt operation.line number) operations
 
 -- how many of the operations are reloads or erasures
 abbrev pub change_count : List Operation → ℕ
 change_count operations = count_by (λ (operation : Operation). is_change operation.op) operations
 
 -- There are not too many lanes and operations, each in its lane and round, and they stand in the order of their lines.
-pub record IsSound (lanes : Option ℕ) (rounds : ℕ) (operations : List Operation) : Type 0 where
+pub record IsOrderly (lanes : Option ℕ) (rounds : ℕ) (operations : List Operation) : Type 0 where
   pub lanes_in : IsTrue (are_lanes lanes)
   pub few : length operations ≤ most_operations
   pub inside : IsTrue (list_all (is_inside (lane_count lanes) rounds) operations)

@@ -1,7 +1,7 @@
 -- Words of the laws of scripts.
 use Rattle.std.specs.Prelude.{◌≡◌, ℕ, List, None, Ok}
-use Rattle.tz_script.specs.Contents.{Contents}
-use Rattle.tz_script.specs.Script.{contents_of, whole_fault}
+use Rattle.tz_script.specs.Contents.{ScriptContents}
+use Rattle.tz_script.specs.Script.{script_contents_of, whole_fault}
 use Rattle.tz_script.specs.declared.script.Script.{Script}
 
 -- the lanes, the rounds and the operations of two scripts are the same
@@ -12,6 +12,6 @@ pub record HasSameParts (a b : Script) : Type 0 where
 
 -- the text gives contents without a fault
 pub record IsReadable (sources : ℕ) (text : List ℕ) : Type 0 where
-  pub contents : Contents
-  pub given : contents_of sources text ≡ Ok contents
+  pub contents : ScriptContents
+  pub given : script_contents_of sources text ≡ Ok contents
   pub no_fault : whole_fault contents ≡ None

@@ -3,8 +3,8 @@ use Rattle.std.specs.Prelude.{ℕ, ◌==◌, nat_le, Bool, true, false, not, ◌
 use Rattle.std.specs.Option.{is_none}
 use Rattle.tz_specs.specs.Choice.{◌>>=◌}
 use Rattle.tz_specs.specs.Value.{is_exactly}
-use Rattle.tz_script.specs.Cause.{least_cause}
-use Rattle.tz_script.specs.Contents.{Contents}
+use Rattle.tz_script.specs.Cause.{least_script_cause}
+use Rattle.tz_script.specs.Contents.{ScriptContents}
 use Rattle.tz_script.specs.FirstWord.{first, ends}
 use Rattle.tz_script.specs.Holds.{is_open, is_full}
 use Rattle.tz_script.specs.Limit.{most_rounds, most_operations, most_changes}
@@ -37,14 +37,14 @@ has_word [] = false
 has_word (word ∷ words) = true
 
 -- words follow, or it is the 1,025th round
-abbrev pub round_causes : Contents → List (List ℕ) → List (ScriptCause × Bool)
+abbrev pub round_causes : ScriptContents → List (List ℕ) → List (ScriptCause × Bool)
 round_causes contents words =
     (causes.Operand, has_word words) ∷ (causes.Limit, nat_le most_rounds contents.rounds) ∷ []
 
 -- An operation, by the number of lanes, the word of its lane and the words behind it.
 
 -- its words say no operation, or it stands before the first round; its operands aren't those of the operation
-abbrev pub op_causes : Contents → List (List ℕ) → List (ScriptCause × Bool)
+abbrev pub op_causes : ScriptContents → List (List ℕ) → List (ScriptCause × Bool)
 op_causes contents words =
     (causes.Op, is_none (keyword_first words) || (contents.rounds == 0)) ∷ (causes.Operand, is_none (op_said words)) ∷ []
 
@@ -69,11 +69,11 @@ is_missing sources None = false
 is_missing sources (Some src) = nat_le sources src
 
 -- it is the 65,537th operation, or the 4,097th reload or erasure
-abbrev pub is_late : Contents → Op → Bool
+abbrev pub is_late : ScriptContents → Op → Bool
 is_late contents op = nat_le most_operations (length contents.operations) || (is_change op && nat_le most_changes contents.changes)
 
 -- the causes of an operation of a lane
-abbrev pub standing_causes : ℕ → Contents → ℕ → Op → List (ScriptCause × Bool)
+abbrev pub standing_causes : ℕ → ScriptContents → ℕ → Op → List (ScriptCause × Bool)
 standing_causes sources contents lane op =
     (causes.HoldTwice, is_held_twice lane contents.holds (hold_begun op))
     ∷ (causes.HoldUnknown, is_unknown lane contents.holds (hold_needed op))
@@ -82,7 +82,7 @@ standing_causes sources contents lane op =
     ∷ (causes.Limit, is_late contents op) ∷ []
 
 -- Where the words name no lane or say no operation, the holds, the texts and the limits aren't asked.
-abbrev pub lane_causes : ℕ → Contents → Option ℕ → Option Op → List (ScriptCause × Bool)
+abbrev pub lane_causes : ℕ → ScriptContents → Option ℕ → Option Op → List (ScriptCause × Bool)
 lane_causes sources contents None op = (causes.Lanes, true) ∷ []
 lane_causes sources contents (Some lane) None = []
 lane_causes sources contents (Some lane) (Some op) = standing_causes sources contents lane op
@@ -92,7 +92,7 @@ abbrev pub lane_of : ℕ → List ℕ → Option ℕ
 lane_of lanes word = counted_of 1 lanes word
 
 -- the causes of an operation, in rising order
-abbrev pub operation_causes : ℕ → Contents → ℕ → List ℕ → List (List ℕ) → List (ScriptCause × Bool)
+abbrev pub operation_causes : ℕ → ScriptContents → ℕ → List ℕ → List (List ℕ) → List (ScriptCause × Bool)
 operation_causes sources contents lanes word words =
     op_causes contents words ++ lane_causes sources contents (lane_of lanes word) (op_said words)
 
@@ -108,7 +108,7 @@ abbrev pub is_round : List ℕ → Bool
 is_round word = is_exactly word (codes "round")
 
 -- the causes of a line's words, by the number of lanes, once it is said; a blank line has none
-abbrev pub word_causes : ℕ → Contents → Option ℕ → List (List ℕ) → List (ScriptCause × Bool)
+abbrev pub word_causes : ℕ → ScriptContents → Option ℕ → List (List ℕ) → List (ScriptCause × Bool)
 word_causes sources contents lanes [] = []
 word_causes sources contents None (word ∷ words) = first_causes (word ∷ words)
 word_causes sources contents (Some lanes) (word ∷ words) =
@@ -121,16 +121,16 @@ words_say None (word ∷ words) = option_map said.Lanes (lanes_said (word ∷ wo
 words_say (Some lanes) (word ∷ words) = if is_round word then Some said.Round else operation_said lanes word words
 
 -- the causes of a line, in rising order
-abbrev pub line_causes : ℕ → Contents → List ℕ → List (ScriptCause × Bool)
-line_causes sources contents line =
+abbrev pub script_line_causes : ℕ → ScriptContents → List ℕ → List (ScriptCause × Bool)
+script_line_causes sources contents line =
     (causes.Line, is_bad_line line) ∷ word_causes sources contents contents.lanes (line_words line)
 
 -- the cause, where there is one
-abbrev pub unless_cause : {A : Type 0} → Option ScriptCause → A → Result A ScriptCause
-unless_cause None x = Ok x
-unless_cause (Some cause) x = Err cause
+abbrev pub unless_refused : {A : Type 0} → Option ScriptCause → A → Result A ScriptCause
+unless_refused None x = Ok x
+unless_refused (Some cause) x = Err cause
 
 -- the least cause of a line, or else what it says; a blank line says nothing
-unfoldable pub line_says : ℕ → Contents → List ℕ → Result (Option Said) ScriptCause
-line_says sources contents line =
-    unless_cause (least_cause (line_causes sources contents line)) (words_say contents.lanes (line_words line))
+unfoldable pub script_line_says : ℕ → ScriptContents → List ℕ → Result (Option Said) ScriptCause
+script_line_says sources contents line =
+    unless_refused (least_script_cause (script_line_causes sources contents line)) (words_say contents.lanes (line_words line))

@@ -1,9 +1,9 @@
 //! What the lines of a script have given so far, with one more line.
 ghost use Rattle.std.specs.Prelude.{◌≡◌, ◌+◌, Some, if◌then◌else◌, OnOk, IsTrue};
-ghost use Rattle.tz_script.specs.Contents.{no_contents, first_left, with_said};
-ghost use Rattle.tz_script.specs.Gathered.{contents_gathered, MayFollow};
+ghost use Rattle.tz_script.specs.Contents.{no_script_contents, first_left, with_line_said};
+ghost use Rattle.tz_script.specs.Gathered.{script_contents_gathered, MayFollow};
 ghost use Rattle.tz_script.specs.Operation.{is_change};
-ghost use Rattle.tz_script.specs.Inside.{are_before};
+ghost use Rattle.tz_script.specs.Inside.{all_stand_before};
 
 use crate::gathered::Gathered;
 use crate::holds::{change, first_line};
@@ -15,7 +15,7 @@ use tz_types::{Items, NoMemory};
 impl Gathered {
     /// Before any line.
     pub fn new(alloc: Global) -> Self
-        ensures { contents_gathered result ≡ no_contents }
+        ensures { script_contents_gathered result ≡ no_script_contents }
     {
         Gathered {
             lanes: None,
@@ -29,7 +29,7 @@ impl Gathered {
 
     /// The line of the first hold that isn't dropped in its round, where the last round ends here.
     pub fn first_left(&self) -> Option<u32>
-        ensures { result ≡ first_left (contents_gathered self.now) }
+        ensures { result ≡ first_left (script_contents_gathered self.now) }
     {
         match self.left {
             Some(line) => Some(line),
@@ -38,8 +38,8 @@ impl Gathered {
     }
 
     fn begin_round(&mut self)
-        requires { MayFollow (contents_gathered self.old) Said.Round }
-        ensures { contents_gathered self.new ≡ with_said 0 (Some Said.Round) (contents_gathered self.old) }
+        requires { MayFollow (script_contents_gathered self.old) Said.Round }
+        ensures { script_contents_gathered self.new ≡ with_line_said 0 (Some Said.Round) (script_contents_gathered self.old) }
     {
         self.left = self.first_left();
         self.holds.clear();
@@ -58,10 +58,10 @@ impl Gathered {
     }
 
     fn add_operation(&mut self, line: u32, lane: u32, op: Op) -> Result<(), NoMemory>
-        requires before { IsTrue (are_before line self.old.operations) }
-        requires may { MayFollow (contents_gathered self.old) (Said.Operation lane op) }
-        ensures contents { OnOk result (contents_gathered self.new ≡ with_said line (Some (Said.Operation lane op)) (contents_gathered self.old)) }
-        ensures before { OnOk result (IsTrue (are_before (line + 1) self.new.operations)) }
+        requires before { IsTrue (all_stand_before line self.old.operations) }
+        requires may { MayFollow (script_contents_gathered self.old) (Said.Operation lane op) }
+        ensures contents { OnOk result (script_contents_gathered self.new ≡ with_line_said line (Some (Said.Operation lane op)) (script_contents_gathered self.old)) }
+        ensures before { OnOk result (IsTrue (all_stand_before (line + 1) self.new.operations)) }
     {
         let changes = self.changes_with(&op);
         change(&mut self.holds, line, lane, &op)?;
@@ -77,10 +77,10 @@ impl Gathered {
 
     /// Adds what a line says. After `NoMemory` the script can't be read on.
     pub fn add(&mut self, line: u32, said: Said) -> Result<(), NoMemory>
-        requires before { IsTrue (are_before line self.old.operations) }
-        requires may { MayFollow (contents_gathered self.old) said }
-        ensures contents { OnOk result (contents_gathered self.new ≡ with_said line (Some said) (contents_gathered self.old)) }
-        ensures before { OnOk result (IsTrue (are_before (line + 1) self.new.operations)) }
+        requires before { IsTrue (all_stand_before line self.old.operations) }
+        requires may { MayFollow (script_contents_gathered self.old) said }
+        ensures contents { OnOk result (script_contents_gathered self.new ≡ with_line_said line (Some said) (script_contents_gathered self.old)) }
+        ensures before { OnOk result (IsTrue (all_stand_before (line + 1) self.new.operations)) }
     {
         match said {
             Said::Lanes(lanes) => self.lanes = Some(lanes),

@@ -1,6 +1,6 @@
 //! Why scripts are refused.
 ghost use Rattle.std.specs.Prelude.{◌≡◌};
-ghost use Rattle.tz_script.specs.Cause.{cause_number};
+ghost use Rattle.tz_script.specs.Cause.{script_cause_number};
 
 /// Why a script is refused.
 #[derive(Clone, Copy, Debug, PartialEq, Eq, Hash)]
@@ -30,7 +30,7 @@ pub enum ScriptCause {
 impl ScriptCause {
     /// The number by which the cause is told.
     pub fn number(self) -> u8
-        ensures { result ≡ cause_number self }
+        ensures { result ≡ script_cause_number self }
     {
         match self {
             ScriptCause::Line => 1,

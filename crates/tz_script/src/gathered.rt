@@ -1,6 +1,6 @@
 //! What the lines of a script have given so far.
 ghost use Rattle.std.specs.Prelude.{◌≡◌, ◌≤◌};
-ghost use Rattle.tz_script.specs.Inside.{change_count, IsSound};
+ghost use Rattle.tz_script.specs.Inside.{change_count, IsOrderly};
 ghost use Rattle.tz_script.specs.Limit.{most_rounds, most_changes};
 ghost use Rattle.std.proofs.Props.{props};
 ghost use Rattle.tz_script.specs.Size.{AreSized};
@@ -23,6 +23,6 @@ pub struct Gathered {
     pub ghost few_rounds: { rounds ≤ most_rounds },
     pub ghost few_changes: { changes ≤ most_changes },
     pub ghost counted: { changes ≡ change_count operations },
-    pub ghost sound: { IsSound lanes rounds operations },
+    pub ghost sound: { IsOrderly lanes rounds operations },
     pub ghost sized: { AreSized operations } by { Prim.hlevel props },
 }

@@ -1,14 +1,14 @@
 //! One line of a script.
 ghost use Rattle.std.specs.Prelude.{◌≡◌, ◌∷◌, ◌<◌, Some, Ok, Err, option_map, IfOk, IfErr, IfSome, MatchResult};
 ghost use Rattle.std.specs.Int.{IsInRange};
-ghost use Rattle.tz_script.specs.Cause.{least_cause};
-ghost use Rattle.tz_script.specs.Gathered.{contents_gathered, AreLanes, MayFollow, MayBeNext};
+ghost use Rattle.tz_script.specs.Cause.{least_script_cause};
+ghost use Rattle.tz_script.specs.Gathered.{script_contents_gathered, AreLanes, MayFollow, MayBeNext};
 ghost use Rattle.tz_script.specs.Limit.{most_lanes};
-ghost use Rattle.tz_script.specs.Line.{lanes_said, first_causes, round_causes, op_causes, is_held_twice, is_unknown, is_crowded, is_missing, is_late, standing_causes, operation_causes, operation_said, word_causes, words_say, line_says};
+ghost use Rattle.tz_script.specs.Line.{lanes_said, first_causes, round_causes, op_causes, is_held_twice, is_unknown, is_crowded, is_missing, is_late, standing_causes, operation_causes, operation_said, word_causes, words_say, script_line_says};
 ghost use Rattle.tz_script.specs.Operation.{hold_begun, hold_needed, source_asked};
 ghost use Rattle.tz_script.specs.OpWords.{op_said};
 ghost use Rattle.tz_script.specs.Size.{IsSized};
-ghost use Rattle.tz_script.specs.Tells.{Means, Tells};
+ghost use Rattle.tz_script.specs.Tells.{MeansSaid, TellsSaid};
 ghost use Rattle.tz_script.specs.Words.{words_of};
 
 use crate::cause::ScriptCause;
@@ -42,7 +42,7 @@ fn lanes(text: &[u8]) -> Option<u32>
 
 /// The first line that isn't blank.
 fn first_line(text: &[u8]) -> Result<Said, ScriptCause>
-    ensures told { Tells (first_causes (words_of text.now)) (option_map Said.Lanes (lanes_said (words_of text.now))) result }
+    ensures told { TellsSaid (first_causes (words_of text.now)) (option_map Said.Lanes (lanes_said (words_of text.now))) result }
     ensures bound { IfOk result AreLanes }
 {
     match lanes(text) {
@@ -53,8 +53,8 @@ fn first_line(text: &[u8]) -> Result<Said, ScriptCause>
 
 /// A round, behind whose word the text stands.
 fn round(text: &[u8], gathered: &Gathered) -> Result<Said, ScriptCause>
-    ensures told { Tells (round_causes (contents_gathered gathered.now) (words_of text.now)) (Some Said.Round) result }
-    ensures may { IfOk result (λ said. MayFollow (contents_gathered gathered.now) said) }
+    ensures told { TellsSaid (round_causes (script_contents_gathered gathered.now) (words_of text.now)) (Some Said.Round) result }
+    ensures may { IfOk result (λ said. MayFollow (script_contents_gathered gathered.now) said) }
 {
     if next_word(text).is_some() {
         return Err(ScriptCause::Operand);
@@ -67,7 +67,7 @@ fn round(text: &[u8], gathered: &Gathered) -> Result<Said, ScriptCause>
 
 /// The operation that the words say.
 fn operation_of(text: &[u8], gathered: &Gathered) -> Result<Op, ScriptCause>
-    ensures told { Tells (op_causes (contents_gathered gathered.now) (words_of text.now)) (op_said (words_of text.now)) result }
+    ensures told { TellsSaid (op_causes (script_contents_gathered gathered.now) (words_of text.now)) (op_said (words_of text.now)) result }
     ensures begun { IfOk result (λ _. 0 < gathered.now.rounds) }
     ensures sized { IfOk result IsSized }
 {
@@ -125,7 +125,7 @@ fn is_missing(sources: u32, asked: Option<u32>) -> bool
 
 /// Whether the operation would be one too many.
 fn is_late(gathered: &Gathered, op: &Op) -> bool
-    ensures { result ≡ is_late (contents_gathered gathered.now) op.now }
+    ensures { result ≡ is_late (script_contents_gathered gathered.now) op.now }
 {
     gathered.operations.len() >= MOST_OPERATIONS
         || (op.is_change() && gathered.changes >= MOST_CHANGES)
@@ -133,7 +133,7 @@ fn is_late(gathered: &Gathered, op: &Op) -> bool
 
 /// The least cause of an operation of a lane, by what stands before it.
 fn standing_cause(gathered: &Gathered, sources: u32, lane: u32, op: &Op) -> Option<ScriptCause>
-    ensures { result ≡ least_cause (standing_causes sources (contents_gathered gathered.now) lane op.now) }
+    ensures { result ≡ least_script_cause (standing_causes sources (script_contents_gathered gathered.now) lane op.now) }
 {
     let holds = gathered.holds.as_slice();
     if is_held_twice(holds, lane, op.hold_begun()) {
@@ -160,8 +160,8 @@ fn operation(
     gathered: &Gathered,
 ) -> Result<Said, ScriptCause>
     requires { gathered.now.lanes ≡ Some lanes }
-    ensures told { Tells (operation_causes sources (contents_gathered gathered.now) lanes word.now (words_of text.now)) (operation_said lanes word.now (words_of text.now)) result }
-    ensures may { IfOk result (λ said. MayFollow (contents_gathered gathered.now) said) }
+    ensures told { TellsSaid (operation_causes sources (script_contents_gathered gathered.now) lanes word.now (words_of text.now)) (operation_said lanes word.now (words_of text.now)) result }
+    ensures may { IfOk result (λ said. MayFollow (script_contents_gathered gathered.now) said) }
 {
     let op = match operation_of(text, gathered) {
         Ok(op) => op,
@@ -185,8 +185,8 @@ fn later_line(
     gathered: &Gathered,
 ) -> Result<Said, ScriptCause>
     requires { gathered.now.lanes ≡ Some lanes }
-    ensures told { Tells (word_causes sources (contents_gathered gathered.now) (Some lanes) (word.now ∷ words_of text.now)) (words_say (Some lanes) (word.now ∷ words_of text.now)) result }
-    ensures may { IfOk result (λ said. MayFollow (contents_gathered gathered.now) said) }
+    ensures told { TellsSaid (word_causes sources (script_contents_gathered gathered.now) (Some lanes) (word.now ∷ words_of text.now)) (words_say (Some lanes) (word.now ∷ words_of text.now)) result }
+    ensures may { IfOk result (λ said. MayFollow (script_contents_gathered gathered.now) said) }
 {
     if is_exactly(word, b"round") {
         round(text, gathered)
@@ -197,8 +197,8 @@ fn later_line(
 
 /// What the words of a line say: nothing where there are none.
 fn words_said(text: &[u8], sources: u32, gathered: &Gathered) -> Result<Option<Said>, ScriptCause>
-    ensures told { Means (word_causes sources (contents_gathered gathered.now) gathered.now.lanes (words_of text.now)) (words_say gathered.now.lanes (words_of text.now)) result }
-    ensures may { IfOk result (MayBeNext (contents_gathered gathered.now)) }
+    ensures told { MeansSaid (word_causes sources (script_contents_gathered gathered.now) gathered.now.lanes (words_of text.now)) (words_say gathered.now.lanes (words_of text.now)) result }
+    ensures may { IfOk result (MayBeNext (script_contents_gathered gathered.now)) }
 {
     let Some((word, rest)) = next_word(text) else {
         return Ok(None);
@@ -214,15 +214,15 @@ fn words_said(text: &[u8], sources: u32, gathered: &Gathered) -> Result<Option<S
 }
 
 /// What a line says, by what stands before it: nothing where it is blank, or its least cause.
-#[tactic(auto, unfolding(crate::specs::Line::line_says))]
+#[tactic(auto, unfolding(crate::specs::Line::script_line_says))]
 pub fn read_line(
     line: &[u8],
     sources: u32,
     gathered: &Gathered,
 ) -> Result<Option<Said>, ScriptCause>
-    ensures ok { IfOk result (λ said. line_says sources (contents_gathered gathered.now) line.now ≡ Ok said) }
-    ensures err { IfErr result (λ cause. line_says sources (contents_gathered gathered.now) line.now ≡ Err cause) }
-    ensures may { IfOk result (MayBeNext (contents_gathered gathered.now)) }
+    ensures ok { IfOk result (λ said. script_line_says sources (script_contents_gathered gathered.now) line.now ≡ Ok said) }
+    ensures err { IfErr result (λ cause. script_line_says sources (script_contents_gathered gathered.now) line.now ≡ Err cause) }
+    ensures may { IfOk result (MayBeNext (script_contents_gathered gathered.now)) }
 {
     if is_bad_line(line) {
         return Err(ScriptCause::Line);

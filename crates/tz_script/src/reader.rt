@@ -1,13 +1,13 @@
 //! Scripts by their text.
 ghost use Rattle.std.specs.Prelude.{◌≡◌, ℕ, ◌+◌, ◌≤◌, ◌∷◌, Ok, List, length, IfOk, IfErr, OnOk, IsTrue};
 ghost use Rattle.tz_specs.specs.Line.{lines_of};
-ghost use Rattle.tz_script.specs.Cause.{fault_at};
-ghost use Rattle.tz_script.specs.Contents.{no_contents};
-ghost use Rattle.tz_script.specs.Gathered.{contents_gathered};
-ghost use Rattle.tz_script.specs.Inside.{are_before};
+ghost use Rattle.tz_script.specs.Cause.{script_fault_at};
+ghost use Rattle.tz_script.specs.Contents.{no_script_contents};
+ghost use Rattle.tz_script.specs.Gathered.{script_contents_gathered};
+ghost use Rattle.tz_script.specs.Inside.{all_stand_before};
 ghost use Rattle.tz_script.specs.Keeping.{KeepsHolds, KeepsSources};
-ghost use Rattle.tz_script.specs.Script.{contents_after, are_blank, blank_fault, contents_of, ReadsScript};
-ghost use Rattle.tz_script.specs.Tells.{MeansFault, MeansWholeFault, IsScriptOf, MeansRefusal};
+ghost use Rattle.tz_script.specs.Script.{script_contents_after, are_blank, blank_fault, script_contents_of, ReadsScript};
+ghost use Rattle.tz_script.specs.Tells.{MeansScriptFault, MeansWholeScriptFault, IsScriptOf, MeansScriptRefusal};
 
 use crate::cause::ScriptCause;
 use crate::error::ScriptError;
@@ -21,7 +21,7 @@ use tz_types::LineFault;
 
 /// Why the script is refused at a line.
 fn fault(line: u32, cause: ScriptCause) -> LineFault
-    ensures { result ≡ fault_at line cause }
+    ensures { result ≡ script_fault_at line cause }
 {
     LineFault {
         line,
@@ -36,14 +36,14 @@ fn take_line(
     number: u32,
     sources: u32,
 ) -> Result<(), ScriptError>
-    requires before { IsTrue (are_before number gathered.old.operations) }
+    requires before { IsTrue (all_stand_before number gathered.old.operations) }
     requires few { number ≤ 4_194_304 }
     ensures ok { OnOk result ((lines : List (List ℕ)) →
-        contents_after sources (contents_gathered gathered.old) number (line.now ∷ lines)
-        ≡ contents_after sources (contents_gathered gathered.new) (number + 1) lines) }
-    ensures before { OnOk result (IsTrue (are_before (number + 1) gathered.new.operations)) }
+        script_contents_after sources (script_contents_gathered gathered.old) number (line.now ∷ lines)
+        ≡ script_contents_after sources (script_contents_gathered gathered.new) (number + 1) lines) }
+    ensures before { OnOk result (IsTrue (all_stand_before (number + 1) gathered.new.operations)) }
     ensures err { IfErr result (λ e. (lines : List (List ℕ)) →
-        MeansFault e (contents_after sources (contents_gathered gathered.old) number (line.now ∷ lines))) }
+        MeansScriptFault e (script_contents_after sources (script_contents_gathered gathered.old) number (line.now ∷ lines))) }
 {
     match read_line(line, sources, gathered) {
         Ok(None) => Ok(()),
@@ -58,8 +58,8 @@ fn take_line(
 /// What all lines of a text give, where one of them has a word.
 fn take_lines(alloc: Global, text: &[u8], sources: u32) -> Result<Gathered, ScriptError>
     requires { length text.now ≤ 4_194_304 }
-    ensures ok { IfOk result (λ gathered. contents_after sources no_contents 1 (lines_of text.now) ≡ Ok (contents_gathered gathered)) }
-    ensures err { IfErr result (λ e. MeansFault e (contents_after sources no_contents 1 (lines_of text.now))) }
+    ensures ok { IfOk result (λ gathered. script_contents_after sources no_script_contents 1 (lines_of text.now) ≡ Ok (script_contents_gathered gathered)) }
+    ensures err { IfErr result (λ e. MeansScriptFault e (script_contents_after sources no_script_contents 1 (lines_of text.now))) }
 {
     let mut gathered = Gathered::new(alloc);
     let mut number = 1;
@@ -104,11 +104,11 @@ fn blank_fault(text: &[u8]) -> LineFault
 }
 
 /// What all lines of a text give.
-#[tactic(auto, unfolding(crate::specs::Script::contents_of))]
+#[tactic(auto, unfolding(crate::specs::Script::script_contents_of))]
 fn gather(alloc: Global, text: &[u8], sources: u32) -> Result<Gathered, ScriptError>
     requires { length text.now ≤ 4_194_304 }
-    ensures ok { IfOk result (λ gathered. contents_of sources text.now ≡ Ok (contents_gathered gathered)) }
-    ensures err { IfErr result (λ e. MeansFault e (contents_of sources text.now)) }
+    ensures ok { IfOk result (λ gathered. script_contents_of sources text.now ≡ Ok (script_contents_gathered gathered)) }
+    ensures err { IfErr result (λ e. MeansScriptFault e (script_contents_of sources text.now)) }
 {
     if are_blank(text) {
         return Err(ScriptError::Fault(blank_fault(text)));
@@ -118,8 +118,8 @@ fn gather(alloc: Global, text: &[u8], sources: u32) -> Result<Gathered, ScriptEr
 
 /// The script that the lines give, or their fault as a whole.
 fn script_of(gathered: Gathered) -> Result<Script, ScriptError>
-    ensures ok { IfOk result (IsScriptOf (contents_gathered gathered)) }
-    ensures err { IfErr result (λ e. MeansWholeFault e (contents_gathered gathered)) }
+    ensures ok { IfOk result (IsScriptOf (script_contents_gathered gathered)) }
+    ensures err { IfErr result (λ e. MeansWholeScriptFault e (script_contents_gathered gathered)) }
 {
     let Some(lanes) = gathered.lanes else {
         return Err(ScriptError::Fault(fault(1, ScriptCause::Lanes)));
@@ -138,7 +138,7 @@ fn script_of(gathered: Gathered) -> Result<Script, ScriptError>
 fn read_whole(alloc: Global, text: &[u8], sources: u32) -> Result<Script, ScriptError>
     requires { length text.now ≤ 4_194_304 }
     ensures ok { IfOk result (λ script. ReadsScript sources text.now script) }
-    ensures refused { IfErr result (λ e. MeansRefusal e sources text.now) }
+    ensures refused { IfErr result (λ e. MeansScriptRefusal e sources text.now) }
 {
     let gathered = match gather(alloc, text, sources) {
         Ok(gathered) => gathered,
@@ -167,7 +167,7 @@ pub fn read_script(alloc: Global, text: &[u8], sources: u32) -> Result<Script, S
     ensures ok { IfOk result (λ script. ReadsScript sources text.now script) }
     ensures holds { IfOk result (λ script. KeepsHolds script.operations) }
     ensures sources { IfOk result (λ script. KeepsSources sources script.operations) }
-    ensures refused { IfErr result (λ e. MeansRefusal e sources text.now) }
+    ensures refused { IfErr result (λ e. MeansScriptRefusal e sources text.now) }
 {
     match read_whole(alloc, text, sources) {
         Ok(script) => Ok(script),

@@ -1,6 +1,6 @@
 //! Scripts: rounds of operations in lanes.
 ghost use Rattle.std.specs.Prelude.{◌≤◌, Some};
-ghost use Rattle.tz_script.specs.Inside.{change_count, IsSound};
+ghost use Rattle.tz_script.specs.Inside.{change_count, IsOrderly};
 ghost use Rattle.tz_script.specs.Limit.{most_rounds, most_changes};
 ghost use Rattle.std.proofs.Props.{props};
 ghost use Rattle.tz_script.specs.Size.{AreSized};
@@ -18,6 +18,6 @@ pub struct Script {
     pub operations: Items<Operation>,
     pub ghost few_rounds: { rounds ≤ most_rounds },
     pub ghost few_changes: { change_count operations ≤ most_changes },
-    pub ghost sound: { IsSound (Some lanes) rounds operations },
+    pub ghost sound: { IsOrderly (Some lanes) rounds operations },
     pub ghost sized: { AreSized operations } by { Prim.hlevel props },
 }

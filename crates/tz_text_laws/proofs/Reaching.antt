@@ -1,17 +1,16 @@
 -- The zone that is found within as many links as there are is the one that is reached by links of any number.
-use Rattle.std.proofs.Common.{◌≡◌, ℕ, zero, suc, ◌<◌, ◌≤◌, Bool, true, false, eqb, IsTrue, List, [], ◌∷◌, length, find, position, Option, Some, None, refl, sym, ap, ◌∙◌, ⊎_elim, arith, subst}
-use Rattle.std.specs.List.{slice_get, list_any, position_or_len, Contains, AllByRecursion, IsDistinct}
+use Rattle.std.proofs.Common.{◌≡◌, ℕ, zero, suc, ◌<◌, ◌≤◌, true, false, eqb, List, [], ◌∷◌, length, find, Some, refl, sym, ap, ◌∙◌, ⊎_elim, arith, subst}
+use Rattle.std.specs.List.{slice_get, list_any, position_or_len, AllByRecursion, IsDistinct}
 use Rattle.std.proofs.lemmas.Bool.{cases_Bool}
 use Rattle.std.proofs.lemmas.Bool.Decides.{nat_tests}
 use Rattle.std.proofs.lemmas.List.Folds.{find_at}
 use Rattle.std.proofs.lemmas.Map.Steps.{length-le_from_distinct_below}
 use Rattle.std.proofs.lemmas.Option.{slice_get_within}
-use Rattle.tz_specs.specs.Choice.{◌>>=◌}
 use Rattle.tz_specs.specs.Value.{is_exactly}
 use Rattle.tz_specs.specs.Written.{WrittenZone, WrittenLink}
 use Rattle.tz_specs.specs.Contents.{Contents}
 use Rattle.tz_specs.specs.Whole.{is_zone_name, reached, zone_of_link}
-use Rattle.tz_text_laws.specs.Reaches.{AreChain, Reaches}
+use Rattle.tz_text_laws.specs.LeadsTo.{AreChain, LeadsTo}
 use Rattle.tz_text_laws.proofs.Choices.{bind_some, only_some, some_same}
 
 -- the place of the earliest link of a name
@@ -93,7 +92,7 @@ reached_by zones links zero name (link ∷ chain) zone are short = absurd (omega
 reached_by zones links (suc steps) name (link ∷ chain) zone are short =
     rw (are.0, are.1) (reached_by zones links steps link.target chain zone are.2 (omega (arith, short)))
 
-chain_to : (zones : List WrittenZone) (links : List WrittenLink) (steps : ℕ) (name zone : List ℕ) → reached zones links steps name ≡ Some zone → Reaches zones links name zone
+chain_to : (zones : List WrittenZone) (links : List WrittenLink) (steps : ℕ) (name zone : List ℕ) → reached zones links steps name ≡ Some zone → LeadsTo zones links name zone
 chain_to zones links zero name zone found =
     let test = only_some (is_zone_name zones name) name zone found in
     ([], (sym test.1, test.0))
@@ -108,10 +107,10 @@ chain_to zones links (suc steps) name zone found =
     (link.0 ∷ later.0, (other, link.1, later.1)))
     (cases_Bool (is_zone_name zones name))
 
-pub leads_to : (contents : Contents) (link : WrittenLink) (zone : List ℕ) → zone_of_link contents link ≡ Some zone → Reaches contents.zones contents.links link.target zone
+pub leads_to : (contents : Contents) (link : WrittenLink) (zone : List ℕ) → zone_of_link contents link ≡ Some zone → LeadsTo contents.zones contents.links link.target zone
 leads_to contents link zone found =
     chain_to contents.zones contents.links (length contents.links) link.target zone found
 
-pub led_to : (contents : Contents) (link : WrittenLink) (zone : List ℕ) → Reaches contents.zones contents.links link.target zone → zone_of_link contents link ≡ Some zone
+pub led_to : (contents : Contents) (link : WrittenLink) (zone : List ℕ) → LeadsTo contents.zones contents.links link.target zone → zone_of_link contents link ≡ Some zone
 led_to contents link zone reaches =
     reached_by contents.zones contents.links (length contents.links) link.target reaches.0 zone reaches.1 (no_longer contents.zones contents.links link.target reaches.0 zone reaches.1)

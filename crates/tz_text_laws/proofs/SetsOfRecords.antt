@@ -1,5 +1,5 @@
 -- The rules of a set are those of the Rule records of its name, and the links are those of the Link records, in their order.
-use Rattle.std.proofs.Common.{◌≡◌, ℕ, ◌+◌, Bool, true, false, if◌then◌else◌, IsTrue, List, [], ◌∷◌, ◌++◌, length, map, find, filter_map, Option, Some, None, Result, Ok, Err, refl, sym, ap, ◌∙◌, ⊎_elim, arith, subst, append_assoc, append-nil}
+use Rattle.std.proofs.Common.{◌≡◌, ℕ, ◌+◌, Bool, true, false, IsTrue, List, [], ◌∷◌, ◌++◌, length, map, filter_map, Option, Some, None, Result, Ok, Err, refl, sym, ap, ◌∙◌, ⊎_elim, subst, append_assoc, append-nil}
 use Rattle.std.specs.List.{cons_option}
 use Rattle.std.proofs.lemmas.Bool.{cases_Bool}
 use Rattle.std.proofs.lemmas.List.Elements.{filter_map-append}
@@ -9,8 +9,8 @@ use Rattle.tz_types.specs.declared.fault.LineFault.{LineFault}
 use Rattle.tz_specs.specs.Choice.{only_if}
 use Rattle.tz_specs.specs.Line.{lines_of}
 use Rattle.tz_specs.specs.Value.{is_exactly}
-use Rattle.tz_specs.specs.Written.{WrittenRule, WrittenSet, WrittenLink, Record, RuleRecord, ZoneRecord, Continuation, LinkRecord}
-use Rattle.tz_specs.specs.Contents.{Contents, no_contents, at_end_of_file, is_set_named, with_rule, with_record, with_said, line_says, contents_after, contents_over, contents_of}
+use Rattle.tz_specs.specs.Written.{WrittenRule, WrittenSet, Record, RuleRecord, ZoneRecord, Continuation, LinkRecord}
+use Rattle.tz_specs.specs.Contents.{Contents, no_contents, at_end_of_file, is_set_named, with_rule, with_record, line_says, contents_after, contents_over, contents_of}
 use Rattle.tz_specs.proofs.AscendingLemmas.{never_before_itself, before_later, both_hold, ascends_later}
 use Rattle.tz_lines.proofs.GatheredLines.{given_by, after_line, after_all, files_after, after_file, over_all, files_from_none}
 use Rattle.tz_text_laws.specs.Records.{records_after, records_over, records_of, rule_named, rules_in, link_said}

@@ -1,17 +1,15 @@
 -- A source that is read gives a sound database.
-use Rattle.std.proofs.Common.{◌≡◌, ℕ, ◌<◌, Bool, true, ◌&&◌, nat_le, nat_lt, IsTrue, List, [], ◌∷◌, length, map, Option, None, refl, sym, ap, ◌∙◌, arith}
+use Rattle.std.proofs.Common.{◌≡◌, nat_le, nat_lt, IsTrue, List, [], ◌∷◌, length, map, Option, None, refl}
 use Rattle.std.specs.List.{list_all, filter_map, flat_map, All}
 use Rattle.std.specs.List.Sorted.{IsPermutation}
 use Rattle.std.proofs.lemmas.Bool.{and_parts, and_from}
 use Rattle.std.proofs.lemmas.List.Elements.{All-nil, All-cons, All-head, All-tail}
 use Rattle.std.proofs.lemmas.List.Sorted.{All-permutation}
 use Rattle.tz_types.specs.declared.link.Link.{Link}
-use Rattle.tz_types.specs.declared.zone.Zone.{Zone}
 use Rattle.tz_types.specs.declared.source.Source.{Source}
 use Rattle.tz_types.specs.declared.database.Db.{Db}
 use Rattle.tz_specs.specs.Expansion.{first_instant}
 use Rattle.tz_specs.specs.Written.{WrittenZone, set_names, written_zone}
-use Rattle.tz_specs.specs.Contents.{Contents}
 use Rattle.tz_specs.specs.Whole.{missing_continuation, late_lines}
 use Rattle.tz_specs.specs.Sound.{is_sound_zone, is_sound}
 use Rattle.tz_specs.specs.Reads.{Reads}

@@ -14,7 +14,7 @@ use Rattle.tz_specs.specs.Whole.{zone_of_link}
 use Rattle.tz_specs.specs.Reads.{Reads}
 use Rattle.tz_specs.proofs.AscendingLemmas.{first_or_later, never_in_none}
 use Rattle.tz_rules.proofs.PlacesOfNames.{name_there}
-use Rattle.tz_text_laws.specs.Reaches.{Reaches}
+use Rattle.tz_text_laws.specs.LeadsTo.{LeadsTo}
 use Rattle.tz_text_laws.proofs.Choices.{bind_some, map_some}
 use Rattle.tz_text_laws.proofs.Reaching.{leads_to}
 
@@ -35,7 +35,7 @@ own_place contents zones (first ∷ links) link same is =
 name_of : Zone → List ℕ
 name_of zone = zone.name
 
-pub stands_for : (source : Source) (db : Db) (reads : Reads source db) (link : Link) → Contains db.links link → (zone : Zone) × (slice_get db.zones link.zone ≡ Some zone) × Reaches reads.contents.zones reads.contents.links link.target zone.name
+pub stands_for : (source : Source) (db : Db) (reads : Reads source db) (link : Link) → Contains db.links link → (zone : Zone) × (slice_get db.zones link.zone ≡ Some zone) × LeadsTo reads.contents.zones reads.contents.links link.target zone.name
 unfolding name_of
 stands_for source db reads link is =
     let contents = reads.contents in
@@ -43,4 +43,4 @@ stands_for source db reads link is =
     let found = bind_some (zone_of_link contents (written_link link)) (λ name. position (λ zone. is_exactly zone.name name) db.zones) link.zone (sym place) in
     let there = sym (slice_get-map name_of db.zones link.zone) ∙ name_there name_of db.zones found.0 link.zone found.2 in
     let zone = map_some name_of (slice_get db.zones link.zone) found.0 there in
-    (zone.0, zone.1, subst (Reaches contents.zones contents.links link.target) (sym zone.2) (leads_to contents (written_link link) found.0 found.1))
+    (zone.0, zone.1, subst (LeadsTo contents.zones contents.links link.target) (sym zone.2) (leads_to contents (written_link link) found.0 found.1))

@@ -1,23 +1,21 @@
 -- A database of a source has a version of 1 to 64 bytes, and zones of 1 to 255 lines.
-use Rattle.std.proofs.Common.{◌≡◌, ℕ, ◌≤◌, Bool, true, false, ◌&&◌, nat_le, nat_eq, if◌then◌else◌, IsTrue, List, [], ◌∷◌, length, map, drop, codes, Option, Some, None, refl, sym, ap, ◌∙◌, ⊎_elim, arith, subst}
+use Rattle.std.proofs.Common.{◌≡◌, ℕ, ◌≤◌, Bool, true, false, ◌&&◌, nat_le, nat_eq, if◌then◌else◌, IsTrue, List, [], ◌∷◌, length, map, drop, codes, Option, Some, None, refl, sym, ap, ⊎_elim, arith, subst}
 use Rattle.std.specs.List.{list_all, starts_with}
 use Rattle.std.proofs.lemmas.Bool.{cases_Bool, and_parts, and_from}
 use Rattle.std.proofs.lemmas.Bool.Decides.{nat_tests}
 use Rattle.std.proofs.lemmas.List.{length-map}
 use Rattle.tz_types.specs.Text.{is_printable, IsText}
 use Rattle.tz_types.specs.Limit.{most_lines}
-use Rattle.tz_types.specs.declared.rule_set.RuleSet.{RuleSet}
-use Rattle.tz_types.specs.declared.zone_line.ZoneLine.{ZoneLine}
 use Rattle.tz_types.specs.declared.zone.Zone.{Zone}
 use Rattle.tz_types.specs.declared.source.Source.{Source}
 use Rattle.tz_types.specs.declared.database.Db.{Db}
 use Rattle.tz_specs.specs.Line.{lines_of}
-use Rattle.tz_specs.specs.Written.{WrittenLine, WrittenZone, set_names, written_line, written_zone}
+use Rattle.tz_specs.specs.Written.{WrittenLine, set_names, written_line, written_zone}
 use Rattle.tz_specs.specs.Reads.{without_white_end, is_version, version_of_line, version_of_text, version_of, Reads}
 use Rattle.tz_rules.proofs.ZoneTime.{goes_on}
 use Rattle.tz_text_laws.specs.Limits.{IsVersionGiven, has_lines}
 use Rattle.tz_text_laws.proofs.Continued.{is_whole, are_whole}
-use Rattle.tz_text_laws.proofs.Soundness.{own_zones, own_whole}
+use Rattle.tz_text_laws.proofs.Soundness.{own_whole}
 
 -- ---- versions
 

@@ -1,3 +1,3 @@
 pub mod Limits
-pub mod Reaches
+pub mod LeadsTo
 pub mod Records

@@ -1,7 +1,5 @@
 -- The records of a source, in the order of their lines.
-use Rattle.std.specs.Prelude.{ℕ, ◌+◌, List, [], ◌∷◌, ◌++◌, length, find, filter_map, Option, Some, None, Result, Ok, Err}
-use Rattle.tz_types.specs.declared.cause.Cause.{Cause}
-use Rattle.tz_types.specs.declared.fault.LineFault.{LineFault}
+use Rattle.std.specs.Prelude.{ℕ, ◌+◌, List, [], ◌∷◌, ◌++◌, length, find, Option, Some, None, Ok, Err}
 use Rattle.tz_specs.specs.Choice.{only_if}
 use Rattle.tz_specs.specs.Line.{lines_of}
 use Rattle.tz_specs.specs.Value.{is_exactly}

@@ -16,7 +16,7 @@ ghost use Rattle.tz_specs.specs.Whole.{zone_of_link};
 ghost use Rattle.tz_specs.specs.Sound.{is_sound};
 ghost use Rattle.tz_specs.specs.Reads.{Reads, Refuses};
 ghost use Rattle.tz_text_laws.specs.Limits.{IsVersionGiven, has_lines};
-ghost use Rattle.tz_text_laws.specs.Reaches.{Reaches};
+ghost use Rattle.tz_text_laws.specs.LeadsTo.{LeadsTo};
 ghost use Rattle.tz_text_laws.specs.Records.{records_of, rule_named, rules_in, link_said};
 
 /// Each source is read as a database, or refused with a fault.
@@ -39,7 +39,7 @@ pub fn read_databases_keep_limits()
 /// The zone to which a link leads is the one that its target reaches through links of any number.
 pub fn links_lead_where_their_targets_reach()
     ensures { (contents : Contents) (link : WrittenLink) (zone : List ℕ) →
-        (zone_of_link contents link ≡ Some zone) ↔ Reaches contents.zones contents.links link.target zone }
+        (zone_of_link contents link ≡ Some zone) ↔ LeadsTo contents.zones contents.links link.target zone }
 {}
 
 /// The rules of a set are those of the Rule records of its name, and the links are those of the Link records, in the order of the
@@ -55,5 +55,5 @@ pub fn sets_and_links_are_those_of_records()
 pub fn links_stand_for_zones_that_they_reach()
     ensures { (source : Source) (db : Db) (reads : Reads source db) (link : Link) → Contains db.links link →
         (zone : Zone) × (slice_get db.zones link.zone ≡ Some zone)
-        × Reaches reads.contents.zones reads.contents.links link.target zone.name }
+        × LeadsTo reads.contents.zones reads.contents.links link.target zone.name }
 {}

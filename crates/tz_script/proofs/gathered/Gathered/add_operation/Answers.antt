@@ -1,5 +1,5 @@
 use Rattle.std.proofs.Common.{◌≡◌, ◌+◌, ℕ, [], ◌∷◌, ◌++◌, cond, refl, sym, ap, ◌∙◌}
-use Rattle.tz_script.specs.Gathered.{contents_gathered}
+use Rattle.tz_script.specs.Gathered.{script_contents_gathered}
 use Rattle.tz_script.specs.Inside.{change_count}
 use Rattle.tz_script.specs.Operation.{is_change}
 use Rattle.tz_script.specs.declared.operation.Operation.{Operation}
@@ -16,9 +16,9 @@ invariant_of-self-2 c =
     let count : change_count c.push.new.self ≡ change_count before.operations + cond (is_change op) 1 0 = ap change_count pushed ∙ counted_pushed before.operations operation in
     record {
       few_rounds = before.few_rounds;
-      few_changes = rw changes (room_for_change (contents_gathered before) op c.requires.may.2 before.few_changes);
+      few_changes = rw changes (room_for_change (script_contents_gathered before) op c.requires.may.2 before.few_changes);
       counted = changes ∙ ap (λ (n : ℕ). n + cond (is_change op) 1 0) before.counted ∙ sym count;
-      sound = rw pushed (sound_operation before.lanes before.rounds before.operations operation before.sound (room_for_operation (contents_gathered before) op c.requires.may.2) refl c.requires.may.0 c.requires.may.1.0 c.requires.may.1.1 c.requires.before);
+      sound = rw pushed (sound_operation before.lanes before.rounds before.operations operation before.sound (room_for_operation (script_contents_gathered before) op c.requires.may.2) refl c.requires.may.0 c.requires.may.1.0 c.requires.may.1.1 c.requires.before);
       sized = rw pushed (sized_pushed before.operations operation before.sized c.requires.may.3);
     }
 

@@ -12,5 +12,5 @@ AreChain zones links name (link ∷ chain) zone =
     (is_zone_name zones name ≡ false) × (find (λ other. is_exactly other.name name) links ≡ Some link) × AreChain zones links link.target chain zone
 
 -- some links lead from the name to the zone
-abbrev pub Reaches : List WrittenZone → List WrittenLink → List ℕ → List ℕ → Type 0
-Reaches zones links name zone = (chain : List WrittenLink) × AreChain zones links name chain zone
+abbrev pub LeadsTo : List WrittenZone → List WrittenLink → List ℕ → List ℕ → Type 0
+LeadsTo zones links name zone = (chain : List WrittenLink) × AreChain zones links name chain zone
