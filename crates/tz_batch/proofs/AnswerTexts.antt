@@ -302,7 +302,7 @@ erase_settled p q before here there pick w v (answers.On n slot what) y h k fits
 
 -- a reply to `list` is settled by the list at its position
 pub list_settled : (p q : Batch) (w v : ℕ) (x y : Answer) → AnswersList p w x → AnswersList q v y → w ≡ v
-    → map (row_of p) (list_at p w).listed ≡ map (row_of q) (list_at q v).listed → x ≡ y
+    → map (row_of p.sources) (list_at p w).listed ≡ map (row_of q.sources) (list_at q v).listed → x ≡ y
 list_settled p q w v (answers.Front n slot) y h k met same = absurd h
 list_settled p q w v (answers.Held n slot) y h k met same = absurd h
 list_settled p q w v (answers.Dropped n slot) y h k met same = absurd h

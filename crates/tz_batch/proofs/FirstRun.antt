@@ -12,7 +12,13 @@ use Rattle.tz_batch.specs.FirstLook.{lone_look, first_front, first_outcome}
 
 abbrev batch_of : Script → Sources → ℕ → ℕ → Batch
 batch_of script sources slots line =
-    record { script = script; sources = sources; slots = slots; outcome = first_outcome line }
+    record {
+      lanes = script.lanes;
+      operations = script.operations;
+      sources = sources;
+      slots = slots;
+      outcome = first_outcome line;
+    }
 
 abbrev looked : ℕ → Answered
 looked line = record { operation = lone_look line; reply = first_front line }

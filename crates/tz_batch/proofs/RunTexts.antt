@@ -32,7 +32,7 @@ use Rattle.tz_batch.proofs.LookupTexts.{lookup_settled}
 
 abbrev batch_of : Script → Sources → ℕ → Outcome → Batch
 batch_of script sources slots outcome =
-    record { script = script; sources = sources; slots = slots; outcome = outcome }
+    record { lanes = script.lanes; operations = script.operations; sources = sources; slots = slots; outcome = outcome }
 
 abbrev operation_of : ℕ → ℕ → ℕ → Op → Operation
 operation_of line round lane op = record { line = line; round = round; lane = lane; op = op }
@@ -93,8 +93,8 @@ module _ (script : Script) (sources : Sources) (slots : ℕ) (a b : Outcome) (jo
       erase_settled (batch_of script sources slots a) (batch_of script sources slots b) before (answered_of (operation_of line round lane (ops.Erase v)) x) (answered_of (operation_of line round lane (ops.Erase v)) y) v x.w y.w x.answer y.answer h k fits_x fits_y e
   answer_settled before line round lane ops.List x y place fits_x fits_y e h k =
       list_settled (batch_of script sources slots a) (batch_of script sources slots b) x.w y.w x.answer y.answer h k place
-      (ap (λ (writes : List Write). map (row_of (batch_of script sources slots a)) (state_after slots (take x.w writes)).listed) journals
-      ∙ ap (λ w. map (row_of (batch_of script sources slots a)) (state_after slots (take w b.journal)).listed) place)
+      (ap (λ (writes : List Write). map (row_of sources) (state_after slots (take x.w writes)).listed) journals
+      ∙ ap (λ w. map (row_of sources) (state_after slots (take w b.journal)).listed) place)
 
   abbrev reply_of : ℕ → ℕ → Answer → Reply
   reply_of line w answer = record { line = line; w = w; answer = answer }

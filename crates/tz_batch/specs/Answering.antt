@@ -56,7 +56,8 @@ IsAccepted sources src = (fault : Fault) → ¬ (IsRefusedWith sources src fault
 
 -- the front at a position has the name that a version of the source at a place would have
 abbrev pub HasNameOf : Batch → ℕ → ℕ → Type 0
-HasNameOf batch w src = name_of_source batch (newest_at batch w).src ≡ name_of_source batch src
+HasNameOf batch w src =
+    name_of_source batch.sources (newest_at batch w).src ≡ name_of_source batch.sources src
 
 -- `reload` of a source at a place
 abbrev pub AnswersReload : Batch → List Answered → Answered → ℕ → ℕ → Answer → Type 0
@@ -97,7 +98,7 @@ AnswersErase batch before here pick w _ = ⊥
 -- `list`
 abbrev pub AnswersList : Batch → ℕ → Answer → Type 0
 AnswersList batch w (answers.Listed listing) =
-    (listing.w ≡ w) × (listing.rows ≡ map (row_of batch) (list_at batch w).listed)
+    (listing.w ≡ w) × (listing.rows ≡ map (row_of batch.sources) (list_at batch w).listed)
 AnswersList batch w _ = ⊥
 
 -- a lookup in the version that is picked

@@ -1,10 +1,9 @@
--- A batch: a script over some sources, in a list of so many slots, with its outcome. A position w is the number of
--- writes so far.
+-- A batch: operations in so many lanes over some sources, in a list of so many slots, with their outcome. A position w
+-- is the number of writes so far.
 use Rattle.std.specs.Prelude.{ℕ, ◌==◌, nat_lt, Bool, true, false, ◌&&◌, List, [], ◌∷◌, Option, Some, None, take, filter, fold, count_by, slice_get}
 use Rattle.tz_types.specs.declared.source.Source.{Source}
 use Rattle.tz_specs.specs.Reads.{version_of}
 use Rattle.tz_script.specs.declared.operation.Operation.{Operation}
-use Rattle.tz_script.specs.declared.script.Script.{Script}
 use Rattle.tz_version.specs.declared.sources.Sources.{Sources}
 use Rattle.pin_core.specs.Replay.{Edition, ListState, state_after, front_of}
 use Rattle.pin_core.specs.declared.listed.Listed.{Listed}
@@ -14,7 +13,8 @@ use Rattle.tz_batch.specs.declared.outcome.Outcome.{Outcome}
 use Rattle.tz_batch.specs.declared.reply.Reply.{Reply}
 
 pub record Batch : Type 0 where
-  pub script : Script
+  pub lanes : ℕ
+  pub operations : List Operation
   pub sources : Sources
   pub slots : ℕ
   pub outcome : Outcome
@@ -33,7 +33,7 @@ each_answered (operation ∷ operations) (reply ∷ replies) =
 
 -- the operations of a batch with their replies, in the order of the script
 abbrev pub answered : Batch → List Answered
-answered batch = each_answered batch.script.operations batch.outcome.replies
+answered batch = each_answered batch.operations batch.outcome.replies
 
 -- the list at a position: that after so many writes of the journal
 abbrev pub list_at : Batch → ℕ → ListState
@@ -44,17 +44,17 @@ abbrev pub newest_at : Batch → ℕ → Edition
 newest_at batch w = front_of (list_at batch w).listed
 
 -- the name of the versions of the source at a place: its version text
-abbrev pub name_of_source : Batch → ℕ → List ℕ
-name_of_source batch src = by_source (slice_get batch.sources.texts src)
+abbrev pub name_of_source : Sources → ℕ → List ℕ
+name_of_source sources src = by_source (slice_get sources.texts src)
   where
     by_source : Option Source → List ℕ
     by_source None = []
     by_source (Some source) = version_of source
 
 -- a listed version with its name
-abbrev pub row_of : Batch → Edition → Listed
-row_of batch edition =
-    record { n = edition.n; src = edition.src; slot = edition.slot; name = name_of_source batch edition.src }
+abbrev pub row_of : Sources → Edition → Listed
+row_of sources edition =
+    record { n = edition.n; src = edition.src; slot = edition.slot; name = name_of_source sources edition.src }
 
 -- the answer tells of a write
 abbrev pub tells_write : Answer → Bool

@@ -21,7 +21,7 @@ WasFrontSlot batch operation w slot =
 -- A slot that a version may be kept in: with one lane that is told by its open holds, and with more a hold of another
 -- lane may have begun at any position of the round.
 abbrev pub MayBeHeld : Batch → List Answered → Operation → ℕ → ℕ → Type 0
-MayBeHeld batch before operation w slot = by_lanes (batch.script.lanes == 1)
+MayBeHeld batch before operation w slot = by_lanes (batch.lanes == 1)
   where
     by_lanes : Bool → Type 0
     by_lanes true = IsHeldSlot batch before operation slot

@@ -60,17 +60,17 @@ changes_by number w (write ∷ later) =
 -- The writes of the journal are those that the replies tell of: for each lane the same, in the same order and places,
 -- counted from 1 by its number, which is the lane less 1; and there are no others.
 pub record WritesAreReplies (batch : Batch) : Type 0 where
-  pub same : (number : ℕ) → number < batch.script.lanes →
+  pub same : (number : ℕ) → number < batch.lanes →
       changes_told batch (number + 1) ≡ changes_by number 1 batch.outcome.journal
   pub counted : IsCounted batch.outcome.journal
-  pub no_others : IsTrue (list_all (λ write. nat_lt write.by batch.script.lanes) batch.outcome.journal)
+  pub no_others : IsTrue (list_all (λ write. nat_lt write.by batch.lanes) batch.outcome.journal)
 
 -- ---- the replies ----
 
 -- there is one reply to each operation, in the order of the script, by its line, and it is the one of one thread
 pub record RepliesAreRight (batch : Batch) : Type 0 where
   pub one_each : map (λ (reply : Reply). reply.line) batch.outcome.replies
-      ≡ map (λ (operation : Operation). operation.line) batch.script.operations
+      ≡ map (λ (operation : Operation). operation.line) batch.operations
   pub right : EachInTurn batch (IsRightReply batch)
 
 -- ---- the positions ----
@@ -117,7 +117,7 @@ SlotsKeep batch =
 -- wherever a slot isn't passed over.
 pub record TakesFirstSlot (batch : Batch) (before : List Answered) (operation : Operation) (met slot : ℕ) : Type 0 where
   pub lower : (other : ℕ) → other < slot → IsPassedOver batch before operation met other
-  pub exact : batch.script.lanes ≡ 1 → ¬ (IsFull batch before operation met)
+  pub exact : batch.lanes ≡ 1 → ¬ (IsFull batch before operation met)
 
 -- where the answer tells of a push, it takes a slot so
 abbrev pub PassesOver : Batch → List Answered → Answered → Type 0
@@ -144,4 +144,10 @@ pub record IsRunOf (batch : Batch) : Type 0 where
 -- the outcome is one that a run of the script may give, over these sources and in a list of so many slots
 abbrev pub IsRun : Script → Sources → ℕ → Outcome → Type 0
 IsRun script sources slots outcome =
-    IsRunOf (record { script = script; sources = sources; slots = slots; outcome = outcome })
+    IsRunOf (record {
+      lanes = script.lanes;
+      operations = script.operations;
+      sources = sources;
+      slots = slots;
+      outcome = outcome;
+    })
