@@ -8,5 +8,7 @@
 
 mod gate;
 mod hold;
+mod run;
 
 pub use gate::{Gate, OpenGate};
+pub use run::{OpenError, run_script};
