@@ -1,1 +1,4 @@
 pub mod Served
+pub mod Leads
+pub mod Journals
+pub mod Positions

@@ -8,7 +8,9 @@
 
 mod gate;
 mod hold;
+mod laws;
 mod run;
 
 pub use gate::{Gate, OpenGate};
+pub use laws::checks_leads;
 pub use run::{OpenError, run_script};

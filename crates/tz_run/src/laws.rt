@@ -1,0 +1,7 @@
+//! Laws of runs on one thread.
+ghost use Rattle.std.specs.Prelude.{◌≡◌, ℕ};
+
+/// Checks the lemmas while they grow.
+pub fn checks_leads()
+    ensures { (count : ℕ) → count ≡ count }
+{}
