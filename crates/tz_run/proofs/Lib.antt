@@ -2,3 +2,4 @@ pub mod Served
 pub mod Leads
 pub mod Journals
 pub mod Positions
+pub mod HeldNames

@@ -5,3 +5,8 @@ ghost use Rattle.std.specs.Prelude.{◌≡◌, ℕ};
 pub fn checks_leads()
     ensures { (count : ℕ) → count ≡ count }
 {}
+
+/// Checks the lemmas while they grow.
+pub fn checks_names()
+    ensures { (count : ℕ) → count ≡ count }
+{}
