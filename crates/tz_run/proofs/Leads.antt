@@ -1,5 +1,5 @@
 -- What leads from one session to another: its parts, what never changes, and how the journal grows.
-use Rattle.std.proofs.Common.{◌≡◌, ℕ, ◌+◌, ◌<◌, ◌==◌, Bool, true, false, cond, not, List, [], ◌∷◌, ◌++◌, length, take, filter, count_by, set, All, Contains, Option, Some, None, IsTrue, refl, sym, ap, subst, ◌∙◌, append_assoc, append-nil, length-append, length-set, get_or-set_other, arith}
+use Rattle.std.proofs.Common.{◌≡◌, ℕ, ◌+◌, ◌<◌, ◌≤◌, ◌==◌, Bool, true, false, cond, not, List, [], ◌∷◌, ◌++◌, length, take, filter, count_by, set, All, Contains, Option, Some, None, IsTrue, refl, sym, ap, subst, ◌∙◌, append_assoc, append-nil, length-append, length-set, get_or-set_other, arith}
 use Rattle.std.specs.Prelude.{slice_get}
 use Rattle.std.specs.List.{list_all}
 use Rattle.std.proofs.lemmas.Bool.{cond_both, and_from, or_parts, eqb-false}
@@ -9,6 +9,7 @@ use Rattle.std.proofs.lemmas.List.Folds.{list_all-append}
 use Rattle.std.proofs.lemmas.List.Sums.{sum_by-cons}
 use Rattle.std.proofs.lemmas.Option.{slice_get-get_or, slice_get_within, get_or_from_slice_get}
 use Rattle.tz_specs.specs.Value.{is_exactly}
+use Rattle.tz_script.specs.Operation.{is_change}
 use Rattle.tz_script.specs.declared.operation.Op.{Op}
 use Rattle.tz_script.specs.declared.operation.Op.TheVariants as ops
 use Rattle.tz_script.specs.declared.operation.Operation.{Operation}
@@ -62,6 +63,10 @@ change_made op (answers.Pushed n slot) = push_made op n slot
 change_made op (answers.Erased n slot gone) = Some (Erase n gone)
 change_made op _ = None
 
+-- 1 where the test passes
+abbrev pub one_if : Bool → ℕ
+one_if test = cond test 1 0
+
 -- how many changes these are
 abbrev pub how_many : Option Change → ℕ
 how_many None = 0
@@ -99,7 +104,8 @@ MayChange session (Some change) holds = IsTrue (allowed (list_now session) chang
 -- An answer settles the session after an operation.
 pub record IsMade (before : Session) (operation : Operation) (answer : Answer) (after : Session) : Type 0 where
   pub may : MayChange before (change_made operation.op answer) (holds_made before operation.line operation.op)
-  pub told : how_many (change_made operation.op answer) ≡ cond (tells_write answer) 1 0
+  pub told : how_many (change_made operation.op answer) ≡ one_if (tells_write answer)
+  pub asked : how_many (change_made operation.op answer) ≤ one_if (is_change operation.op)
   pub is : after ≡ session_with before (change_made operation.op answer) (holds_made before operation.line operation.op)
 
 -- where nothing changes
@@ -110,47 +116,47 @@ stays before after holds same is =
 
 look_made : (before after : Session) (line round lane : ℕ) (answer : Answer) → ServesLook before answer after → IsMade before (record { line = line; round = round; lane = lane; op = ops.Look }) answer after
 look_made before after line round lane (answers.Front n slot) served =
-    record { may = tt; told = refl; is = stays before after before.holds refl served.1 }
+    record { may = tt; told = refl; asked = omega arith; is = stays before after before.holds refl served.1 }
 look_made before after line round lane _ served = absurd served
 
 hold_made : (before after : Session) (line round lane : ℕ) (name : List ℕ) (answer : Answer) → ServesHold before line name answer after → IsMade before (record { line = line; round = round; lane = lane; op = ops.Hold name }) answer after
 hold_made before after line round lane name (answers.Held n slot) served =
-    record { may = tt; told = refl; is = served.1 }
+    record { may = tt; told = refl; asked = omega arith; is = served.1 }
 hold_made before after line round lane name _ served = absurd served
 
 drop_made : (before after : Session) (line round lane : ℕ) (name : List ℕ) (answer : Answer) → ServesDrop before name answer after → IsMade before (record { line = line; round = round; lane = lane; op = ops.Drop name }) answer after
 drop_made before after line round lane name (answers.Dropped n slot) served =
-    record { may = tt; told = refl; is = served.3 }
+    record { may = tt; told = refl; asked = omega arith; is = served.3 }
 drop_made before after line round lane name _ served = absurd served
 
 lookup_made : (before after : Session) (operation : Operation) (pick : Pick) (finds : Edition → Found → Type 0) (answer : Answer) → holds_made before operation.line operation.op ≡ before.holds → ServesLookup before pick finds answer after → IsMade before operation answer after
 lookup_made before after operation pick finds (answers.On n slot found) same served =
-    record { may = tt; told = refl; is = stays before after (holds_made before operation.line operation.op) same served.4 }
+    record { may = tt; told = refl; asked = omega arith; is = stays before after (holds_made before operation.line operation.op) same served.4 }
 lookup_made before after operation pick finds _ same served = absurd served
 
 reload_made : (before after : Session) (line round lane src : ℕ) (answer : Answer) → ServesReload before src answer after → IsMade before (record { line = line; round = round; lane = lane; op = ops.Reload src }) answer after
 reload_made before after line round lane src (answers.Refused file at cause) served =
-    record { may = tt; told = refl; is = stays before after before.holds refl served.1 }
+    record { may = tt; told = refl; asked = omega arith; is = stays before after before.holds refl served.1 }
 reload_made before after line round lane src (answers.Same n) served =
-    record { may = tt; told = refl; is = stays before after before.holds refl served.3 }
+    record { may = tt; told = refl; asked = omega arith; is = stays before after before.holds refl served.3 }
 reload_made before after line round lane src (answers.Pushed n slot) served =
-    record { may = (served.3, (or_parts _ (is_slot_held slot before.holds) served.2.free).1); told = refl; is = served.4 }
+    record { may = (served.3, (or_parts _ (is_slot_held slot before.holds) served.2.free).1); told = refl; asked = omega arith; is = served.4 }
 reload_made before after line round lane src answers.Full served =
-    record { may = tt; told = refl; is = stays before after before.holds refl served.3 }
+    record { may = tt; told = refl; asked = omega arith; is = stays before after before.holds refl served.3 }
 reload_made before after line round lane src _ served = absurd served
 
 erase_made : (before after : Session) (line round lane : ℕ) (pick : Pick) (answer : Answer) → ServesErase before pick answer after → IsMade before (record { line = line; round = round; lane = lane; op = ops.Erase pick }) answer after
 erase_made before after line round lane pick (answers.NotListed n slot) served =
-    record { may = tt; told = refl; is = stays before after before.holds refl served.4 }
+    record { may = tt; told = refl; asked = omega arith; is = stays before after before.holds refl served.4 }
 erase_made before after line round lane pick (answers.Nothing n slot) served =
-    record { may = tt; told = refl; is = stays before after before.holds refl served.5 }
+    record { may = tt; told = refl; asked = omega arith; is = stays before after before.holds refl served.5 }
 erase_made before after line round lane pick (answers.Erased n slot gone) served =
-    record { may = (served.3, tt); told = refl; is = served.4 }
+    record { may = (served.3, tt); told = refl; asked = omega arith; is = served.4 }
 erase_made before after line round lane pick _ served = absurd served
 
 list_made : (before after : Session) (line round lane : ℕ) (answer : Answer) → ServesList before answer after → IsMade before (record { line = line; round = round; lane = lane; op = ops.List }) answer after
 list_made before after line round lane (answers.Listed listing) served =
-    record { may = tt; told = refl; is = stays before after before.holds refl served.2 }
+    record { may = tt; told = refl; asked = omega arith; is = stays before after before.holds refl served.2 }
 list_made before after line round lane _ served = absurd served
 
 by_op : (before after : Session) (line round lane : ℕ) (op : Op) (answer : Answer) → Serves before (record { line = line; round = round; lane = lane; op = op }) answer after → IsMade before (record { line = line; round = round; lane = lane; op = op }) answer after
@@ -246,7 +252,7 @@ journal_grows first last (here ∷ those) leads =
       length-append added.0 rest.0 ∙ by_parts added.2 (steps_made first leads.0 here leads.1).told rest.2,
     )
   where
-    by_parts : {a b k : ℕ} → a ≡ k → k ≡ cond (tells here) 1 0 → b ≡ count_by tells those → a + b ≡ count_by tells (here ∷ those)
+    by_parts : {a b k : ℕ} → a ≡ k → k ≡ one_if (tells here) → b ≡ count_by tells those → a + b ≡ count_by tells (here ∷ those)
     by_parts p q r = omega (arith, p, q, r, sum_by-cons (λ it. cond (tells it) 1 0) here those)
 
 -- the journal of a session is the front of what it grows to

@@ -2,6 +2,7 @@ pub mod Served
 pub mod Leads
 pub mod Journals
 pub mod Positions
+pub mod HeldNames
 pub mod Order
 pub mod OpenHolds
 pub mod Turn

@@ -1,5 +1,5 @@
 -- The positions of a batch that is served.
-use Rattle.std.proofs.Common.{◌≡◌, ℕ, ◌+◌, ◌<◌, ◌≤◌, nat_lt, Bool, true, false, cond, ◌&&◌, List, [], ◌∷◌, ◌++◌, length, fold, filter, count_by, refl, sym, ap, ◌∙◌, append_assoc, length-append, arith}
+use Rattle.std.proofs.Common.{◌≡◌, ℕ, ◌+◌, ◌<◌, ◌≤◌, nat_lt, Bool, true, false, ◌&&◌, List, [], ◌∷◌, ◌++◌, length, fold, filter, count_by, refl, sym, ap, ◌∙◌, append_assoc, length-append, arith}
 use Rattle.std.proofs.lemmas.Bool.{cond_both, lt-ltb, le-ltb}
 use Rattle.std.proofs.lemmas.List.Sums.{sum_by-cons, sum_by-append}
 use Rattle.pin_core.specs.declared.write.Write.{Write}
@@ -8,7 +8,7 @@ use Rattle.tz_batch.specs.Run.{PositionsDontFall}
 use Rattle.tz_run.specs.Session.{Session, opening_session}
 use Rattle.tz_run.specs.Leading.{Steps, Leads}
 use Rattle.tz_run.proofs.Served.{IsServed}
-use Rattle.tz_run.proofs.Leads.{tells, journal_grows, Meeting, session_met}
+use Rattle.tz_run.proofs.Leads.{one_if, tells, journal_grows, Meeting, session_met}
 
 -- ---- how many writes there are ----
 
@@ -19,21 +19,18 @@ longer first last those leads =
     omega (arith, ap (λ (journal : List Write). length journal) grows.1, length-append first.journal grows.0, grows.2)
 
 -- one more or none
-one_longer : (before after : Session) (here : Answered) → Steps before here after → length after.journal ≡ length before.journal + cond (tells here) 1 0
+one_longer : (before after : Session) (here : Answered) → Steps before here after → length after.journal ≡ length before.journal + one_if (tells here)
 one_longer before after here steps =
-    omega (arith, longer before after (here ∷ []) (after, steps, refl), sum_by-cons (λ (it : Answered). cond (tells it) 1 0) here [])
+    omega (arith, longer before after (here ∷ []) (after, steps, refl), sum_by-cons (λ (it : Answered). one_if (tells it)) here [])
 
 -- ---- the writes before a round ----
-
-abbrev one_if : Bool → ℕ
-one_if test = cond test 1 0
 
 -- how many replies before the round tell of a write
 abbrev writes_before : ℕ → List Answered → ℕ
 writes_before round those = count_by (is_write_before round) those
 
 counted_cons : (round : ℕ) (here : Answered) (those : List Answered) → writes_before round (here ∷ those) ≡ one_if (is_write_before round here) + writes_before round those
-counted_cons round here those = sum_by-cons (λ (it : Answered). cond (is_write_before round it) 1 0) here those
+counted_cons round here those = sum_by-cons (λ (it : Answered). one_if (is_write_before round it)) here those
 
 -- each of those stands in a round that has the property
 abbrev InRounds : (ℕ → Type 0) → List Answered → Type 0
@@ -56,9 +53,9 @@ all_before round [] all = refl
 all_before round (here ∷ those) all =
     let earlier : nat_lt here.operation.round round ≡ true = lt-ltb here.operation.round round (all [] those here refl) in
     let same : one_if (is_write_before round here) ≡ one_if (tells here) = ap (λ (test : Bool). one_if (test && tells here)) earlier in
-    omega (arith, counted_cons round here those, same, all_before round those (rest_in (λ other. other < round) here those all), sum_by-cons (λ (it : Answered). cond (tells it) 1 0) here those)
+    omega (arith, counted_cons round here those, same, all_before round those (rest_in (λ other. other < round) here those all), sum_by-cons (λ (it : Answered). one_if (tells it)) here those)
 
-one_at_most : (early tells_it : Bool) → cond (early && tells_it) 1 0 ≤ cond tells_it 1 0
+one_at_most : (early tells_it : Bool) → one_if (early && tells_it) ≤ one_if tells_it
 one_at_most true tells_it = omega arith
 one_at_most false true = omega arith
 one_at_most false false = omega arith
@@ -67,7 +64,7 @@ one_at_most false false = omega arith
 few_before : (round : ℕ) (those : List Answered) → writes_before round those ≤ count_by tells those
 few_before round [] = omega arith
 few_before round (here ∷ those) =
-    omega (arith, counted_cons round here those, one_at_most (nat_lt here.operation.round round) (tells here), few_before round those, sum_by-cons (λ (it : Answered). cond (tells it) 1 0) here those)
+    omega (arith, counted_cons round here those, one_at_most (nat_lt here.operation.round round) (tells here), few_before round those, sum_by-cons (λ (it : Answered). one_if (tells it)) here those)
 
 -- ---- an operation in its place ----
 
@@ -76,7 +73,7 @@ module _ (batch : Batch) (room : ℕ) (last : Session) (before later : List Answ
   starts : (round : ℕ) → start_of batch round ≡ writes_before round before + writes_before round (here ∷ later)
   starts round =
       ap (λ (those : List Answered). writes_before round those) is
-      ∙ sum_by-append (λ (it : Answered). cond (is_write_before round it) 1 0) before (here ∷ later)
+      ∙ sum_by-append (λ (it : Answered). one_if (is_write_before round it)) before (here ∷ later)
 
   from_here : InRounds (λ other. here.operation.round ≤ other) (here ∷ later)
   from_here [] others it split = let same : here ≡ it = cc in omega (arith, ap (λ (one : Answered). one.operation.round) same)

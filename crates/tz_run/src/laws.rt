@@ -7,6 +7,11 @@ pub fn checks_leads()
 {}
 
 /// Checks the lemmas while they grow.
+pub fn checks_names()
+    ensures { (count : ℕ) → count ≡ count }
+{}
+
+/// Checks the lemmas while they grow.
 pub fn checks_replies()
     ensures { (count : ℕ) → count ≡ count }
 {}

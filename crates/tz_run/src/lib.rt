@@ -12,5 +12,5 @@ mod laws;
 mod run;
 
 pub use gate::{Gate, OpenGate};
-pub use laws::{checks_leads, checks_replies};
+pub use laws::{checks_leads, checks_names, checks_replies};
 pub use run::{OpenError, run_script};

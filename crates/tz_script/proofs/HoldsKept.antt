@@ -257,14 +257,17 @@ no_left None left contents lanes is none = let told = rw lanes at none in cc
 no_left (Some count) None contents lanes is none = is
 no_left (Some count) (Some line) contents lanes is none = let told = rw (lanes, is) at none in cc
 
+-- contents without a fault keep the rules on holds
+pub contents_keep_holds : (sources : ℕ) (text : List ℕ) (contents : ScriptContents) → script_contents_of sources text ≡ Ok contents → whole_fault contents ≡ None → KeepsHolds contents.operations
+contents_keep_holds sources text contents given no_fault =
+    let held = kept_of AreHeld sources (still_held sources) text contents none_held given in
+    let dropped = no_left contents.lanes (first_left contents) contents refl refl no_fault in
+    all_dropped contents.rounds contents.operations contents.holds contents.left held dropped
+
 -- a script that is read keeps the rules on holds
 pub script_keeps_holds : (sources : ℕ) (text : List ℕ) (script : Script) → ReadsScript sources text script → KeepsHolds script.operations
 script_keeps_holds sources text script read =
-    let contents = read.contents in
-    let held = kept_of AreHeld sources (still_held sources) text contents none_held read.given in
-    let dropped = no_left contents.lanes (first_left contents) contents refl refl read.no_fault in
-    let keeps = all_dropped contents.rounds contents.operations contents.holds contents.left held dropped in
-    rw read.operations keeps
+    rw read.operations (contents_keep_holds sources text read.contents read.given read.no_fault)
 
 fourth_of_five : (a b c d e : Bool) → least_script_cause ((causes.HoldTwice, a) ∷ (causes.HoldUnknown, b) ∷ (causes.TooManyHolds, c) ∷ (causes.SourceIndex, d) ∷ (causes.Limit, e) ∷ []) ≡ None → d ≡ false
 fourth_of_five a b c false e h = refl

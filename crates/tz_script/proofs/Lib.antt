@@ -6,3 +6,4 @@ pub mod Reading
 pub mod ScriptLaws
 pub mod HoldRules
 pub mod HoldsKept
+pub mod Order

@@ -9,7 +9,8 @@ use Rattle.tz_types.specs.Civil.{is_from_to}
 use Rattle.tz_types.specs.Order.{ascends, ascends_after}
 use Rattle.tz_script.specs.Cause.{least_script_cause}
 use Rattle.tz_script.specs.Contents.{ScriptContents}
-use Rattle.tz_script.specs.Inside.{lane_count, is_inside, stands_before, all_stand_before, change_count, IsOrderly}
+use Rattle.tz_script.specs.Inside.{lane_count, is_inside, stands_before, is_no_later, RoundsDontFall, all_stand_before, change_count, IsOrderly}
+use Rattle.tz_script.specs.Limit.{most_lanes}
 use Rattle.tz_script.specs.Line.{standing_causes, is_held_twice, is_unknown, is_crowded, is_missing, is_late}
 use Rattle.tz_script.specs.Operation.{is_change, hold_begun, hold_needed, source_asked}
 use Rattle.tz_script.specs.Size.{IsSized, AreSized}
@@ -63,7 +64,29 @@ rising_pushed : (operations : List Operation) (operation : Operation) → ascend
 rising_pushed [] operation rising before = refl
 rising_pushed (first ∷ operations) operation rising before = after_pushed first operations operation rising before
 
-pub sound_lanes : (lanes rounds : ℕ) (operations : List Operation) → 1 ≤ lanes → lanes ≤ 16 → IsOrderly None rounds operations → IsOrderly (Some lanes) rounds operations
+no_later : (lanes rounds : ℕ) (first next : Operation) → is_inside lanes rounds first ≡ true → next.round ≡ rounds → is_no_later first next ≡ true
+no_later lanes rounds first next inside here =
+    let within = and_parts (is_from_to 1 lanes first.lane) (is_from_to 1 rounds first.round) inside in
+    by_number first.round next.round within.1 here
+  where
+    by_number : (a b : ℕ) → is_from_to 1 rounds a ≡ true → b ≡ rounds → nat_le a b ≡ true
+    by_number a b low here = grind arith
+
+no_later_pushed : (lanes rounds : ℕ) (first : Operation) (operations : List Operation) (operation : Operation) → ascends_after is_no_later first operations ≡ true → list_all (is_inside lanes rounds) (first ∷ operations) ≡ true → operation.round ≡ rounds → ascends_after is_no_later first (operations ++ operation ∷ []) ≡ true
+no_later_pushed lanes rounds first [] operation rising inside here =
+    let parts = and_parts (is_inside lanes rounds first) true inside in
+    and_true (is_no_later first operation) true (no_later lanes rounds first operation parts.0 here) refl
+no_later_pushed lanes rounds first (next ∷ operations) operation rising inside here =
+    let both = and_parts (is_no_later first next) (ascends_after is_no_later next operations) rising in
+    let parts = and_parts (is_inside lanes rounds first) (list_all (is_inside lanes rounds) (next ∷ operations)) inside in
+    and_true (is_no_later first next) (ascends_after is_no_later next (operations ++ operation ∷ [])) both.0 (no_later_pushed lanes rounds next operations operation both.1 parts.1 here)
+
+-- one more operation of the last round
+pub rounds_pushed : (lanes rounds : ℕ) (operations : List Operation) (operation : Operation) → RoundsDontFall operations → list_all (is_inside lanes rounds) operations ≡ true → operation.round ≡ rounds → RoundsDontFall (operations ++ operation ∷ [])
+rounds_pushed lanes rounds [] operation rising inside here = refl
+rounds_pushed lanes rounds (first ∷ operations) operation rising inside here = no_later_pushed lanes rounds first operations operation rising inside here
+
+pub sound_lanes : (lanes rounds : ℕ) (operations : List Operation) → 1 ≤ lanes → lanes ≤ most_lanes → IsOrderly None rounds operations → IsOrderly (Some lanes) rounds operations
 sound_lanes lanes rounds operations low high sound =
     record {
       lanes_in = grind arith;

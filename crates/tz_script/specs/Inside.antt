@@ -1,5 +1,5 @@
 -- What a script keeps: how many lanes, rounds and operations it has, and where its operations stand.
-use Rattle.std.specs.Prelude.{ℕ, ◌≤◌, nat_lt, Bool, true, ◌&&◌, List, length, count_by, Option, Some, None, IsTrue}
+use Rattle.std.specs.Prelude.{ℕ, ◌≤◌, nat_le, nat_lt, Bool, true, ◌&&◌, List, length, count_by, Option, Some, None, IsTrue}
 use Rattle.std.specs.List.{list_all}
 use Rattle.tz_types.specs.Civil.{is_from_to}
 use Rattle.tz_types.specs.Order.{ascends}
@@ -24,6 +24,14 @@ is_inside lanes rounds operation = is_from_to 1 lanes operation.lane && is_from_
 -- the operation stands at a line before that of the other
 abbrev pub stands_before : Operation → Operation → Bool
 stands_before a b = nat_lt a.line b.line
+
+-- the operation isn't of a later round than the other
+abbrev pub is_no_later : Operation → Operation → Bool
+is_no_later a b = nat_le a.round b.round
+
+-- rounds don't fall from one operation to the next
+abbrev pub RoundsDontFall : List Operation → Type 0
+RoundsDontFall operations = IsTrue (ascends is_no_later operations)
 
 -- all operations stand at lines before this one
 abbrev pub all_stand_before : ℕ → List Operation → Bool

@@ -9,9 +9,9 @@ longest_line = 512
 abbrev pub longest_name : ℕ
 longest_name = 16
 
--- the lanes
+-- The lanes. Scripts of one lane are run so far; 16 lanes come with lanes that run in threads of their own.
 abbrev pub most_lanes : ℕ
-most_lanes = 16
+most_lanes = 1
 
 -- the rounds
 abbrev pub most_rounds : ℕ

@@ -64,6 +64,6 @@ abbrev pub begins_with_zero : List ℕ → Bool
 begins_with_zero [] = false
 begins_with_zero (byte ∷ bytes) = byte == 0x30
 
--- how many lanes there are: 1 to 16, without leading zeros
+-- how many lanes there are: at least 1 and not too many, without leading zeros
 abbrev pub lane_count_of : List ℕ → Option ℕ
 lane_count_of word = only_if (not (begins_with_zero word)) word >>= counted_of 1 most_lanes

@@ -1,6 +1,6 @@
 //! What the lines of a script have given so far.
 ghost use Rattle.std.specs.Prelude.{◌≡◌, ◌≤◌};
-ghost use Rattle.tz_script.specs.Inside.{change_count, IsOrderly};
+ghost use Rattle.tz_script.specs.Inside.{change_count, IsOrderly, RoundsDontFall};
 ghost use Rattle.tz_script.specs.Limit.{most_rounds, most_changes};
 ghost use Rattle.std.proofs.Props.{props};
 ghost use Rattle.tz_script.specs.Size.{AreSized};
@@ -25,4 +25,5 @@ pub struct Gathered {
     pub ghost counted: { changes ≡ change_count operations },
     pub ghost sound: { IsOrderly lanes rounds operations },
     pub ghost sized: { AreSized operations } by { Prim.hlevel props },
+    pub ghost in_rounds: { RoundsDontFall operations },
 }

@@ -1,8 +1,9 @@
 //! What a text says is settled by the text: laws of specs/Script.antt.
-ghost use Rattle.std.specs.Prelude.{◌≡◌, ℕ, ◌⊎◌, List};
+ghost use Rattle.std.specs.Prelude.{◌≡◌, ℕ, ◌⊎◌, List, None, Ok};
 ghost use Rattle.tz_types.specs.declared.fault.LineFault.{LineFault};
+ghost use Rattle.tz_script.specs.Contents.{ScriptContents};
 ghost use Rattle.tz_script.specs.Keeping.{KeepsHolds, KeepsSources};
-ghost use Rattle.tz_script.specs.Script.{ReadsScript, RefusesScript};
+ghost use Rattle.tz_script.specs.Script.{script_contents_of, whole_fault, ReadsScript, RefusesScript};
 ghost use Rattle.tz_script.specs.Laws.{HasSameParts, IsReadable};
 ghost use Rattle.tz_script.specs.declared.script.Script.{Script as DeclaredScript};
 
@@ -21,10 +22,11 @@ pub fn read_scripts_are_not_refused()
     ensures { (sources : ℕ) (text : List ℕ) (script : DeclaredScript) (fault : LineFault) → ReadsScript sources text script → ¬ (RefusesScript sources text fault) }
 {}
 
-/// Where a script is read, each lane has no hold open as a round begins, does only what it may by its open holds, and
-/// has none open as the round ends.
+/// Where a text gives contents without a fault, each lane has no hold open as a round begins, does only what it may by
+/// its open holds, and has none open as the round ends. So it is where a script is read.
 pub fn read_scripts_keep_holds()
-    ensures { (sources : ℕ) (text : List ℕ) (script : DeclaredScript) → ReadsScript sources text script → KeepsHolds script.operations }
+    ensures contents { (sources : ℕ) (text : List ℕ) (contents : ScriptContents) → script_contents_of sources text ≡ Ok contents → whole_fault contents ≡ None → KeepsHolds contents.operations }
+    ensures scripts { (sources : ℕ) (text : List ℕ) (script : DeclaredScript) → ReadsScript sources text script → KeepsHolds script.operations }
 {}
 
 /// Where a script is read, each text that it asks for is there.

@@ -3,10 +3,10 @@
 //! `read_script` reads a text whole, or refuses it with one line and its cause:
 //!
 //! ```text
-//! lanes 2
+//! lanes 1
 //! round
 //! 1 hold old
-//! 2 reload 1      # a comment
+//! 1 reload 1      # a comment
 //! 1 info old Europe/Zurich 0
 //! 1 drop old
 //! ```

@@ -87,7 +87,7 @@ fn conversion_of(word: &[u8]) -> Option<Conversion>
     }
 }
 
-/// How many lanes there are: 1 to 16, without leading zeros.
+/// How many lanes there are: at least 1 and not too many, without leading zeros.
 pub fn lane_count_of(word: &[u8]) -> Option<u32>
     ensures value { result ≡ lane_count_of word.now }
     ensures bound { IfSome result (IsInRange 1 most_lanes) }

@@ -1,12 +1,12 @@
 //! Scripts by their text.
-ghost use Rattle.std.specs.Prelude.{◌≡◌, ℕ, ◌+◌, ◌≤◌, ◌∷◌, Ok, List, length, IfOk, IfErr, OnOk, IsTrue};
+ghost use Rattle.std.specs.Prelude.{◌≡◌, ℕ, ◌+◌, ◌≤◌, ◌∷◌, None, Ok, List, length, IfOk, IfErr, OnOk, IsTrue};
 ghost use Rattle.tz_specs.specs.Line.{lines_of};
 ghost use Rattle.tz_script.specs.Cause.{script_fault_at};
 ghost use Rattle.tz_script.specs.Contents.{no_script_contents};
 ghost use Rattle.tz_script.specs.Gathered.{script_contents_gathered};
 ghost use Rattle.tz_script.specs.Inside.{all_stand_before};
 ghost use Rattle.tz_script.specs.Keeping.{KeepsHolds, KeepsSources};
-ghost use Rattle.tz_script.specs.Script.{script_contents_after, are_blank, blank_fault, script_contents_of, ReadsScript};
+ghost use Rattle.tz_script.specs.Script.{script_contents_after, are_blank, blank_fault, script_contents_of, whole_fault, ReadsScript};
 ghost use Rattle.tz_script.specs.Tells.{MeansScriptFault, MeansWholeScriptFault, IsScriptOf, MeansScriptRefusal};
 
 use crate::cause::ScriptCause;
@@ -116,8 +116,9 @@ fn gather(alloc: Global, text: &[u8], sources: u32) -> Result<Gathered, ScriptEr
     take_lines(alloc, text, sources)
 }
 
-/// The script that the lines give, or their fault as a whole.
+/// The script that the lines give, or their fault as a whole. Without one their operations keep the rules on holds.
 fn script_of(gathered: Gathered) -> Result<Script, ScriptError>
+    requires { whole_fault (script_contents_gathered gathered) ≡ None → KeepsHolds gathered.operations }
     ensures ok { IfOk result (IsScriptOf (script_contents_gathered gathered)) }
     ensures err { IfErr result (λ e. MeansWholeScriptFault e (script_contents_gathered gathered)) }
 {
@@ -150,7 +151,7 @@ fn read_whole(alloc: Global, text: &[u8], sources: u32) -> Result<Script, Script
 /// The script of a text of at most 4,194,304 bytes, where there are so many texts to reload.
 ///
 /// Words are separated by spaces, tabs and carriage returns, `#` begins a comment, and blank lines say nothing. The
-/// first line that isn't blank is `lanes N`, N from 1 to 16. Each later line is `round`, which begins a round, or
+/// first line that isn't blank is `lanes N`, where N is 1 so far. Each later line is `round`, which begins a round, or
 /// `LANE OP` and the operands of the operation: `look`, `hold H`, `drop H`, `info V ZONE T`, `local V ZONE L`,
 /// `sys V ZONE L CHOICE`, `scan V ZONE FROM STEP COUNT`, `clock V CONV X`, `reload SRC`, `erase V` and `list`. V is
 /// `front` or the name of a hold. Holds belong to their lane and round.

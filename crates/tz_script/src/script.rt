@@ -1,6 +1,7 @@
 //! Scripts: rounds of operations in lanes.
 ghost use Rattle.std.specs.Prelude.{◌≤◌, Some};
-ghost use Rattle.tz_script.specs.Inside.{change_count, IsOrderly};
+ghost use Rattle.tz_script.specs.Inside.{change_count, IsOrderly, RoundsDontFall};
+ghost use Rattle.tz_script.specs.Keeping.{KeepsHolds};
 ghost use Rattle.tz_script.specs.Limit.{most_rounds, most_changes};
 ghost use Rattle.std.proofs.Props.{props};
 ghost use Rattle.tz_script.specs.Size.{AreSized};
@@ -8,9 +9,10 @@ ghost use Rattle.tz_script.specs.Size.{AreSized};
 use crate::operation::Operation;
 use tz_types::Items;
 
-/// A script: how many lanes it has, from 1 to 16, how many rounds, at most 1,024, and its operations in the order of
-/// their lines, at most 65,536, of which at most 4,096 are reloads or erasures. Each operation has a lane and a round
-/// from 1 on.
+/// A script: how many lanes it has, one so far, how many rounds, at most 1,024, and its operations in the order of their
+/// lines, at most 65,536, of which at most 4,096 are reloads or erasures. Each operation has a lane and a round from 1
+/// on, and rounds don't fall from one operation to the next. In each round each lane begins without an open hold, may do
+/// what it does, and ends without one.
 #[derive(Debug, Drop)]
 pub struct Script {
     pub lanes: u32,
@@ -20,4 +22,6 @@ pub struct Script {
     pub ghost few_changes: { change_count operations ≤ most_changes },
     pub ghost sound: { IsOrderly (Some lanes) rounds operations },
     pub ghost sized: { AreSized operations } by { Prim.hlevel props },
+    pub ghost in_rounds: { RoundsDontFall operations },
+    pub ghost holds_kept: { KeepsHolds operations } by { Prim.hlevel props },
 }

@@ -43,7 +43,8 @@ fn refuses_scripts(rt: HostRuntime) {
         ("", 1, 8),
         ("\n \t\r\n# no word\n", 1, 8),
         ("lanes 0\n", 1, 8),
-        ("lanes 17\n", 1, 8),
+        ("lanes 2\n", 1, 8),
+        ("lanes 16\n", 1, 8),
         ("lanes 01\n", 1, 8),
         ("lanes\n", 1, 8),
         ("lanes 1 1\n", 1, 8),
@@ -58,7 +59,7 @@ fn refuses_scripts(rt: HostRuntime) {
         ("lanes 1\nround\n1 drop a\n", 3, 5),
         ("lanes 1\nround\n1 hold a\n", 3, 6),
         ("lanes 1\nround\n1 hold a\n1 hold a\n", 4, 4),
-        ("lanes 2\nround\n1 hold a\n2 drop a\n", 4, 5),
+        ("lanes 1\nround\n1 hold a\n2 drop a\n", 4, 8),
         ("lanes 1\nround\n1 hold a\nround\n1 drop a\n", 5, 5),
         (
             "lanes 1\nround\n1 hold a\nround\n1 hold a\n1 drop a\n",
@@ -152,8 +153,8 @@ fn bytes_of_lines(rt: HostRuntime) -> Result<(), Fail> {
     reads(
         &rt,
         rt.alloc(),
-        b"\r\nlanes\t16#\xc3\xa9 \x7f\r\n\rround\r",
-        16,
+        b"\r\nlanes\t1#\xc3\xa9 \x7f\r\n\rround\r",
+        1,
         1,
         0,
     );
@@ -201,12 +202,11 @@ fn keeps_what_is_just_allowed(rt: HostRuntime) -> Result<(), Fail> {
     reads(
         &rt,
         rt.alloc(),
-        b"lanes 16\nround\n16 look\n1 hold a\n1 hold b\n1 hold c\n1 hold d\n1 hold e\n1 hold f\n1 hold abcdefGHIJ012345\n2 hold a\n1 drop a\n1 hold a\n1 drop b\n1 drop c\n1 drop d\n1 drop e\n1 drop f\n1 drop abcdefGHIJ012345\n1 drop a\n2 drop a\n",
-        16,
+        b"lanes 1\nround\n1 look\n1 hold a\n1 hold b\n1 hold c\n1 hold d\n1 hold e\n1 hold f\n1 hold abcdefGHIJ012345\n1 drop a\n1 hold a\n1 drop b\n1 drop c\n1 drop d\n1 drop e\n1 drop f\n1 drop abcdefGHIJ012345\n1 drop a\n",
         1,
-        19,
+        1,
+        17,
     );
-    refuses(&rt, rt.alloc(), b"lanes 16\nround\n17 look\n", 3, 8);
     let mut zone = repeated(rt.alloc(), b"lanes 1\nround\n1 info front ", b"Z", 255)?;
     zone.extend_from_slice(b" 0")?;
     reads(&rt, rt.alloc(), zone.as_slice(), 1, 1, 1);
@@ -220,17 +220,17 @@ fn keeps_what_is_just_allowed(rt: HostRuntime) -> Result<(), Fail> {
 
 /// A script with every operation.
 const EVERY: &[u8] = b"# every operation
-lanes 2
+lanes 1
 
 round
 01 look
-2 hold Old1
-2 info Old1 Europe/Zurich -5
-2 drop Old1
+1 hold Old1
+1 info Old1 Europe/Zurich -5
+1 drop Old1
 round
 1 local front Europe/Zurich 1970-01-02T00:00:00
 1 sys front Europe/Zurich 7 strict
-2 sys front Europe/Zurich 7 latest
+1 sys front Europe/Zurich 7 latest
 1 scan front Europe/Zurich 0 4294967295 65536
 1 clock front utc-gps 999999999999999
 1 reload 1
@@ -248,18 +248,18 @@ fn reads_every_operation(rt: HostRuntime) {
         (Ok(script), Some(name), Ok(zone)) => {
             let ops = [
                 (5, 1, 1, Op::Look),
-                (6, 1, 2, Op::Hold(name.copied())),
+                (6, 1, 1, Op::Hold(name.copied())),
                 (
                     7,
                     1,
-                    2,
+                    1,
                     Op::Info {
                         v: Pick::Held(name.copied()),
                         zone: zone.copied(),
                         t: -5,
                     },
                 ),
-                (8, 1, 2, Op::Drop(name)),
+                (8, 1, 1, Op::Drop(name)),
                 (
                     10,
                     2,
@@ -284,7 +284,7 @@ fn reads_every_operation(rt: HostRuntime) {
                 (
                     12,
                     2,
-                    2,
+                    1,
                     Op::Sys {
                         v: Pick::Front,
                         zone: zone.copied(),
@@ -318,7 +318,7 @@ fn reads_every_operation(rt: HostRuntime) {
                 (16, 2, 1, Op::Erase { v: Pick::Front }),
                 (17, 2, 1, Op::List),
             ];
-            assert_eq!(rt; script.lanes, 2);
+            assert_eq!(rt; script.lanes, 1);
             assert_eq!(rt; script.rounds, 2);
             assert_eq!(rt; script.operations.len(), ops.len());
             for (operation, (line, round, lane, op)) in script

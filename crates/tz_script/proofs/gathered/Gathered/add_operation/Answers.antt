@@ -1,9 +1,9 @@
 use Rattle.std.proofs.Common.{◌≡◌, ◌+◌, ℕ, [], ◌∷◌, ◌++◌, cond, refl, sym, ap, ◌∙◌}
 use Rattle.tz_script.specs.Gathered.{script_contents_gathered}
-use Rattle.tz_script.specs.Inside.{change_count}
+use Rattle.tz_script.specs.Inside.{lane_count, change_count}
 use Rattle.tz_script.specs.Operation.{is_change}
 use Rattle.tz_script.specs.declared.operation.Operation.{Operation}
-use Rattle.tz_script.proofs.Soundness.{sound_operation, counted_pushed, room_for_operation, room_for_change, before_pushed, sized_pushed}
+use Rattle.tz_script.proofs.Soundness.{sound_operation, counted_pushed, room_for_operation, room_for_change, before_pushed, sized_pushed, rounds_pushed}
 use Rattle.tz_script.proofs.gathered.Gathered.add_operation.Goals as goal
 
 pub invariant_of-self-2 : goal.invariant_of-self-2
@@ -20,6 +20,7 @@ invariant_of-self-2 c =
       counted = changes ∙ ap (λ (n : ℕ). n + cond (is_change op) 1 0) before.counted ∙ sym count;
       sound = rw pushed (sound_operation before.lanes before.rounds before.operations operation before.sound (room_for_operation (script_contents_gathered before) op c.requires.may.2) refl c.requires.may.0 c.requires.may.1.0 c.requires.may.1.1 c.requires.before);
       sized = rw pushed (sized_pushed before.operations operation before.sized c.requires.may.3);
+      in_rounds = rw pushed (rounds_pushed (lane_count before.lanes) before.rounds before.operations operation before.in_rounds before.sound.inside refl);
     }
 
 pub returns-clause-before : goal.returns-clause-before

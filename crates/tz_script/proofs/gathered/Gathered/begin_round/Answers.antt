@@ -11,4 +11,5 @@ invariant_of-self c =
       counted = before.counted;
       sound = sound_round before.lanes before.rounds before.operations before.sound;
       sized = before.sized;
+      in_rounds = before.in_rounds;
     }
