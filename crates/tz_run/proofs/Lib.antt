@@ -9,3 +9,4 @@ pub mod Turn
 pub mod Replies
 pub mod Pushes
 pub mod KeptSlots
+pub mod Loop

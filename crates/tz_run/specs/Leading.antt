@@ -1,6 +1,8 @@
 -- How operations with their replies lead from one session to another, one after another.
 use Rattle.std.specs.Prelude.{◌≡◌, List, [], ◌∷◌, length}
-use Rattle.tz_batch.specs.Batch.{Answered}
+use Rattle.tz_script.specs.declared.operation.Operation.{Operation}
+use Rattle.tz_batch.specs.Batch.{Answered, each_answered}
+use Rattle.tz_batch.specs.declared.reply.Reply.{Reply}
 use Rattle.tz_run.specs.Session.{Session, in_round}
 use Rattle.tz_run.specs.Serving.{Serves}
 
@@ -15,3 +17,8 @@ pub record Steps (before : Session) (here : Answered) (after : Session) : Type 0
 abbrev pub Leads : Session → List Answered → Session → Type 0
 Leads first [] last = first ≡ last
 Leads first (here ∷ later) last = (next : Session) × Steps first here next × Leads next later last
+
+-- there is one reply to each operation, and they lead from the one session to the other
+abbrev pub AreServed : Session → List Operation → List Reply → Session → Type 0
+AreServed first operations replies last =
+    (length replies ≡ length operations) × Leads first (each_answered operations replies) last

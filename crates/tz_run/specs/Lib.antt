@@ -1,3 +1,4 @@
 pub mod Session
+pub mod Asking
 pub mod Serving
 pub mod Leading
