@@ -3,3 +3,4 @@ pub mod Leads
 pub mod Journals
 pub mod Positions
 pub mod HeldNames
+pub mod Assembly
