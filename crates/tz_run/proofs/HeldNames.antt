@@ -7,13 +7,14 @@ use Rattle.std.proofs.lemmas.List.Elements.{filter-append}
 use Rattle.std.proofs.lemmas.List.Folds.{list_all-append}
 use Rattle.std.proofs.lemmas.List.Sums.{sum_by-cons, sum_by-append}
 use Rattle.tz_specs.specs.Value.{is_exactly}
-use Rattle.tz_script.specs.Inside.{change_count}
+use Rattle.tz_script.specs.Inside.{change_count, RoundsDontFall}
 use Rattle.tz_script.specs.Keeping.{is_in, ops_in, may_begin, has_needed, may_stand, names_after, names_open, KeepsHolds}
 use Rattle.tz_script.specs.Operation.{hold_begun, hold_needed, is_change}
 use Rattle.tz_script.specs.declared.operation.Op.{Op}
 use Rattle.tz_script.specs.declared.operation.Op.TheVariants as ops
 use Rattle.tz_script.specs.declared.operation.Operation.{Operation}
 use Rattle.tz_script.proofs.HoldRules.{pushed_in, open_pushed}
+use Rattle.tz_script.proofs.Order.{rounds_before}
 use Rattle.tz_version.specs.declared.sources.Sources.{Sources}
 use Rattle.pin_core.specs.declared.write.Change.{Change}
 use Rattle.pin_core.specs.declared.write.Write.{Write}
@@ -158,7 +159,7 @@ parted lane round before later here inside =
     ∙ ap (λ (more : List Operation). ops_in lane round before ++ map op_of more) own
 
 -- Operations of one lane that keep the rules on holds, and whose rounds don't fall.
-module _ (operations : List Operation) (keeps : KeepsHolds operations) (ours : IsTrue (list_all (λ (it : Operation). it.lane == 1) operations)) (rounds : (before later : List Operation) (here : Operation) → operations ≡ before ++ here ∷ later → UpTo here.round before) where
+module _ (operations : List Operation) (keeps : KeepsHolds operations) (ours : IsTrue (list_all (λ (it : Operation). it.lane == 1) operations)) (in_rounds : RoundsDontFall operations) where
   of_lane : (before later : List Operation) (here : Operation) → operations ≡ before ++ here ∷ later → (here.lane == 1) ≡ true
   of_lane before later here is =
       let test : Operation → Bool = λ it. it.lane == 1 in
@@ -170,7 +171,7 @@ module _ (operations : List Operation) (keeps : KeepsHolds operations) (ours : I
       let inside : is_in 1 here.round here ≡ true = and_from (here.lane == 1) (here.round == here.round) (of_lane before later here is) (eq-eqb here.round here.round refl) in
       let whole : names_open [] (ops_in 1 here.round before ++ here.op ∷ ops_in 1 here.round later) ≡ Some [] =
       sym (ap (λ (those : List Operation). names_open [] (ops_in 1 here.round those)) is ∙ ap (names_open []) (parted 1 here.round before later here inside)) ∙ keeps 1 here.round in
-      may_after [] (ops_in 1 here.round before) here.op (ops_in 1 here.round later) (names_of (in_round here.round session).holds) [] (tracks here.round (rounds before later here is)) whole
+      may_after [] (ops_in 1 here.round before) here.op (ops_in 1 here.round later) (names_of (in_round here.round session).holds) [] (tracks here.round (rounds_before operations before later here in_rounds is)) whole
 
   tracks : (done coming later : List Operation) (replies : List Reply) (first last : Session) → length replies ≡ length coming → operations ≡ done ++ coming ++ later → Tracks done first → Leads first (each_answered coming replies) last → Tracks (done ++ coming) last
   tracks done [] later replies first last long is kept leads =
@@ -180,7 +181,7 @@ module _ (operations : List Operation) (keeps : KeepsHolds operations) (ours : I
       let here : Answered = record { operation = operation; reply = reply } in
       let split : operations ≡ done ++ operation ∷ (coming ++ later) = is ∙ append_assoc done (operation ∷ coming) later in
       let next : Tracks (done ++ operation ∷ []) leads.0 =
-      tracks_step done first leads.0 here (of_lane done (coming ++ later) operation split) (rounds done (coming ++ later) operation split) (may_stand_here done (coming ++ later) operation first split kept) leads.1 kept in
+      tracks_step done first leads.0 here (of_lane done (coming ++ later) operation split) (rounds_before operations done (coming ++ later) operation in_rounds split) (may_stand_here done (coming ++ later) operation first split kept) leads.1 kept in
       let one : (done ++ operation ∷ []) ++ coming ≡ done ++ operation ∷ coming = append_assoc done (operation ∷ []) coming in
       subst (λ (those : List Operation). Tracks those last) one
       (tracks (done ++ operation ∷ []) coming later replies leads.0 last (omega (arith, long)) (is ∙ sym (ap (λ (those : List Operation). those ++ later) one)) next leads.2)

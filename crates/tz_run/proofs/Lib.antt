@@ -9,4 +9,5 @@ pub mod Turn
 pub mod Replies
 pub mod Pushes
 pub mod KeptSlots
+pub mod Assembly
 pub mod Loop

@@ -3,7 +3,7 @@ use Rattle.std.proofs.Common.{◌≡◌, ℕ, zero, suc, ◌+◌, ◌<◌, ◌�
 use Rattle.std.specs.Prelude.{IfSome, nat_lt}
 use Rattle.std.specs.List.{list_all}
 use Rattle.std.proofs.lemmas.Bool.{and_parts}
-use Rattle.std.proofs.lemmas.List.{take_more, length_append}
+use Rattle.std.proofs.lemmas.List.{take_more, length-append}
 use Rattle.std.proofs.lemmas.List.Elements.{All-get_or}
 use Rattle.tz_script.specs.Inside.{change_count}
 use Rattle.tz_script.specs.Keeping.{is_there, KeepsSources}
@@ -20,6 +20,7 @@ use Rattle.tz_run.specs.Asking.{HasHold}
 use Rattle.tz_run.specs.Leading.{Steps, Leads, AreServed}
 use Rattle.tz_run.proofs.Leads.{leads_one_more, same_list}
 use Rattle.tz_run.proofs.HeldNames.{needed_is_open, room_left}
+use Rattle.tz_run.proofs.Assembly.{in_the_lane}
 
 abbrev answered_at : Operation → Reply → Answered
 answered_at operation reply = record { operation = operation; reply = reply }
@@ -50,7 +51,7 @@ served_one_more first session next operations replies i d reply low served steps
     let P : List Operation → Type 0 = λ those. AreServed first those (replies ++ reply ∷ []) next in
     let Q : List Answered → Type 0 = λ those. Leads first those next in
     subst P (sym more) (
-      omega (arith, length_append replies (reply ∷ []), length_append (take i operations) (get_or operations i d ∷ []), served.0),
+      omega (arith, length-append replies (reply ∷ []), length-append (take i operations) (get_or operations i d ∷ []), served.0),
       subst Q (sym (one_more_answered (take i operations) replies (get_or operations i d) reply served.0))
         (leads_one_more first session next (each_answered (take i operations) replies) (answered_at (get_or operations i d) reply) served.1 steps)
     )
@@ -88,7 +89,7 @@ may_serve script first session replies i d low opening room there served =
     let same = same_list first session (each_answered (take i operations) replies) served.1 in
     record {
       room = λ change. omega (arith, room, same.2, room_left operations (take i operations) (drop (suc i) operations) here replies first.sources first.slots first.room session parted change leads);
-      held = needed_is_open operations script.holds_kept (take i operations) (drop (suc i) operations) here replies first.sources first.slots first.room session parted served.0 leads;
+      held = needed_is_open operations script.holds_kept (in_the_lane script) script.in_rounds (take i operations) (drop (suc i) operations) here replies first.sources first.slots first.room session parted served.0 leads;
       there = subst (λ (count : ℕ). IfSome (source_asked here.op) (λ src. src < count)) (ap (λ (it : Sources). length it.texts) (sym same.0)) (there_if (length first.sources.texts) (source_asked here.op) (at_each (length first.sources.texts) operations i d low there));
       sized = All-get_or (λ (operation : Operation). IsSized operation.op) operations i d low script.sized;
     }
