@@ -1,3 +1,6 @@
 pub mod Session
 pub mod Serving
 pub mod Leading
+pub mod Asking
+pub mod Picked
+pub mod Stock
