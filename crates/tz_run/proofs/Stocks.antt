@@ -256,7 +256,7 @@ few_rows sources book places holds stocked =
     let order = orderly sources book places holds stocked in
     let few : length (list_of book).listed ≤ length (list_of book).kept =
     few_listed (length (pushes book.journal) + 2) (list_of book).kept (list_of book).listed order.stands in
-    let long : length (rows_of book) ≡ length (list_of book).listed = length-map (with_name book.names) (list_of book).listed in
+    let long : length (rows_of book) ≡ length (list_of book).listed = length-map (list_of book).listed (with_name book.names) in
     omega (arith, few, long, order.wide, stocked.few_slots)
 
 -- what a push and an erase ask of the list
