@@ -11,3 +11,7 @@ pub mod Pushes
 pub mod KeptSlots
 pub mod Assembly
 pub mod Loop
+pub mod NamedHolds
+pub mod Passing
+pub mod Stocks
+pub mod Serves

@@ -6,11 +6,15 @@
 //! for scripts, on `tz_version` for versions, on `pin_core` for the list, and on `tz_batch` for what a run means.
 #![tactic(auto)]
 
+mod desk;
+mod erase;
 mod gate;
 mod hold;
-mod laws;
+mod holds;
+mod picked;
+mod places;
+mod reload;
 mod run;
 
 pub use gate::{Gate, OpenGate};
-pub use laws::{checks_leads, checks_names, checks_replies};
 pub use run::{OpenError, run_script};

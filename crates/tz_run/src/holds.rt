@@ -1,0 +1,31 @@
+//! `hold` and `drop`: holds that begin and end.
+ghost use Rattle.std.specs.Prelude.{Some, IfOk};
+ghost use Rattle.tz_run.specs.Serving.{ServesHold, ServesDrop};
+ghost use Rattle.tz_run.specs.Asking.{HasHold};
+
+use crate::desk::Desk;
+use crate::picked::Picked;
+use tz_batch::Answer;
+use tz_script::HoldName;
+use tz_types::NoMemory;
+
+impl<'s> Desk<'s> {
+    /// Holds the version at the front by a name, from a line on.
+    pub fn hold(&mut self, line: u32, name: &HoldName) -> Result<Answer, NoMemory>
+        ensures { IfOk result (λ answer. ServesHold self.old line name.now answer self.new) }
+    {
+        let Picked { n, slot, .. } = self.newest();
+        self.begin_hold(line, name)?;
+        Ok(Answer::Held { n, slot })
+    }
+
+    /// Lets the hold of that name go, which is open.
+    pub fn drop_hold(&mut self, name: &HoldName) -> Answer
+        requires { HasHold self.old (Some name.now) }
+        ensures { ServesDrop self.old name.now result self.new }
+    {
+        let Picked { n, slot, .. } = self.held(name);
+        self.end_hold(name);
+        Answer::Dropped { n, slot }
+    }
+}
