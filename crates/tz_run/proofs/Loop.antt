@@ -53,7 +53,7 @@ served_one_more first session next operations replies i d reply low served steps
     subst P (sym more) (
       omega (arith, length-append replies (reply ∷ []), length-append (take i operations) (get_or operations i d ∷ []), served.0),
       subst Q (sym (one_more_answered (take i operations) replies (get_or operations i d) reply served.0))
-        (leads_one_more first session next (each_answered (take i operations) replies) (answered_at (get_or operations i d) reply) served.1 steps)
+          (leads_one_more first session next (each_answered (take i operations) replies) (answered_at (get_or operations i d) reply) served.1 steps),
     )
 
 -- the source that is asked for is there

@@ -15,6 +15,7 @@ mod picked;
 mod places;
 mod reload;
 mod run;
+mod serve;
 
 pub use gate::{Gate, OpenGate};
 pub use run::{OpenError, run_script};
