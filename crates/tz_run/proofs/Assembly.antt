@@ -10,7 +10,7 @@ use Rattle.tz_script.specs.declared.operation.Operation.{Operation}
 use Rattle.tz_script.specs.declared.script.Script.{Script}
 use Rattle.tz_script.proofs.Order.{rounds_dont_fall, lines_rise, one_lane}
 use Rattle.tz_version.specs.declared.sources.Sources.{Sources}
-use Rattle.tz_batch.specs.Batch.{Batch, Answered, each_answered, answered}
+use Rattle.tz_batch.specs.Batch.{Batch, Answered, each_answered}
 use Rattle.tz_batch.specs.Answering.{IsRightReply}
 use Rattle.tz_batch.specs.Run.{EachInTurn, SlotsKeep, PushesPassOver, IsRunOf, IsRun}
 use Rattle.tz_batch.specs.declared.outcome.Outcome.{Outcome}
@@ -20,6 +20,9 @@ use Rattle.tz_run.specs.Leading.{Leads}
 use Rattle.tz_run.proofs.Served.{InOrder, IsServed}
 use Rattle.tz_run.proofs.Journals.{journal_replays, writes_are_replies}
 use Rattle.tz_run.proofs.Positions.{positions_dont_fall}
+use Rattle.tz_run.proofs.Replies.{replies_are_right}
+use Rattle.tz_run.proofs.Pushes.{pushes_pass_over}
+use Rattle.tz_run.proofs.KeptSlots.{slots_keep}
 
 -- ---- the order ----
 
@@ -108,3 +111,9 @@ served_run batch room last served right slots pushes =
       slots = slots;
       pushes = pushes;
     }
+
+-- What the loop of a run leaves behind is a run of its script.
+pub run_of_served : (script : Script) (sources : Sources) (slots room : ℕ) (outcome : Outcome) (last : Session) → IsServed (record { lanes = script.lanes; operations = script.operations; sources = sources; slots = slots; outcome = outcome }) room last → IsRun script sources slots outcome
+run_of_served script sources slots room outcome last served =
+    let batch : Batch = record { lanes = script.lanes; operations = script.operations; sources = sources; slots = slots; outcome = outcome } in
+    served_run batch room last served (replies_are_right batch room last served) (slots_keep batch room last served) (pushes_pass_over batch room last served)

@@ -2,5 +2,11 @@ pub mod Served
 pub mod Leads
 pub mod Journals
 pub mod Positions
+pub mod Order
+pub mod OpenHolds
+pub mod Turn
+pub mod Replies
+pub mod Pushes
+pub mod KeptSlots
 pub mod HeldNames
 pub mod Assembly

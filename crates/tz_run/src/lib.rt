@@ -12,5 +12,5 @@ mod laws;
 mod run;
 
 pub use gate::{Gate, OpenGate};
-pub use laws::{checks_leads, checks_names};
+pub use laws::{operations_have_what_they_need, what_is_served_is_a_run};
 pub use run::{OpenError, run_script};
