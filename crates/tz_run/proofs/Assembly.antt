@@ -54,6 +54,7 @@ in_order operations replies up in_rounds long =
 
 -- ---- scripts ----
 
+-- a lane among one is the first
 lane_is : (lanes rounds lane round : ℕ) → lanes ≡ 1 → (is_from_to 1 lanes lane && is_from_to 1 rounds round) ≡ true → (lane == 1) ≡ true
 lane_is lanes rounds lane round one inside =
     let within = and_parts (is_from_to 1 lanes lane) (is_from_to 1 rounds round) inside in
@@ -61,6 +62,7 @@ lane_is lanes rounds lane round one inside =
     let high = leb-true lane lanes (and_parts (nat_le 1 lane) (nat_le lane lanes) within.0).1 in
     eq-eqb lane 1 (omega (arith, low, high, one))
 
+-- and so is each
 lanes_are : (lanes rounds : ℕ) (operations : List Operation) → lanes ≡ 1 → list_all (is_inside lanes rounds) operations ≡ true → list_all (λ (operation : Operation). operation.lane == 1) operations ≡ true
 lanes_are lanes rounds [] one inside = refl
 lanes_are lanes rounds (operation ∷ operations) one inside =
@@ -90,6 +92,7 @@ served_script script sources slots room outcome last some long leads journal =
 
 -- ---- the run ----
 
+-- each reply tells the line of its operation
 lines_told : (operations : List Operation) (replies : List Reply) (first last : Session) → length replies ≡ length operations → Leads first (each_answered operations replies) last → map (λ (reply : Reply). reply.line) replies ≡ map (λ (operation : Operation). operation.line) operations
 lines_told [] [] first last long leads = refl
 lines_told [] (reply ∷ replies) first last long leads = absurd (omega (arith, long))
