@@ -10,7 +10,7 @@ use Rattle.tz_script.specs.declared.operation.Operation.{Operation}
 use Rattle.tz_script.specs.declared.script.Script.{Script}
 use Rattle.tz_script.proofs.Order.{rounds_dont_fall, lines_rise, one_lane}
 use Rattle.tz_version.specs.declared.sources.Sources.{Sources}
-use Rattle.tz_batch.specs.Batch.{Batch, Answered, each_answered, answered}
+use Rattle.tz_batch.specs.Batch.{Batch, Answered, each_answered}
 use Rattle.tz_batch.specs.Answering.{IsRightReply}
 use Rattle.tz_batch.specs.Run.{EachInTurn, SlotsKeep, PushesPassOver, IsRunOf, IsRun}
 use Rattle.tz_batch.specs.declared.outcome.Outcome.{Outcome}
@@ -20,6 +20,9 @@ use Rattle.tz_run.specs.Leading.{Leads}
 use Rattle.tz_run.proofs.Served.{InOrder, IsServed}
 use Rattle.tz_run.proofs.Journals.{journal_replays, writes_are_replies}
 use Rattle.tz_run.proofs.Positions.{positions_dont_fall}
+use Rattle.tz_run.proofs.Replies.{replies_are_right}
+use Rattle.tz_run.proofs.Pushes.{pushes_pass_over}
+use Rattle.tz_run.proofs.KeptSlots.{slots_keep}
 
 -- ---- the order ----
 
@@ -51,6 +54,7 @@ in_order operations replies up in_rounds long =
 
 -- ---- scripts ----
 
+-- a lane among one is the first
 lane_is : (lanes rounds lane round : ℕ) → lanes ≡ 1 → (is_from_to 1 lanes lane && is_from_to 1 rounds round) ≡ true → (lane == 1) ≡ true
 lane_is lanes rounds lane round one inside =
     let within = and_parts (is_from_to 1 lanes lane) (is_from_to 1 rounds round) inside in
@@ -58,6 +62,7 @@ lane_is lanes rounds lane round one inside =
     let high = leb-true lane lanes (and_parts (nat_le 1 lane) (nat_le lane lanes) within.0).1 in
     eq-eqb lane 1 (omega (arith, low, high, one))
 
+-- and so is each
 lanes_are : (lanes rounds : ℕ) (operations : List Operation) → lanes ≡ 1 → list_all (is_inside lanes rounds) operations ≡ true → list_all (λ (operation : Operation). operation.lane == 1) operations ≡ true
 lanes_are lanes rounds [] one inside = refl
 lanes_are lanes rounds (operation ∷ operations) one inside =
@@ -87,6 +92,7 @@ served_script script sources slots room outcome last some long leads journal =
 
 -- ---- the run ----
 
+-- each reply tells the line of its operation
 lines_told : (operations : List Operation) (replies : List Reply) (first last : Session) → length replies ≡ length operations → Leads first (each_answered operations replies) last → map (λ (reply : Reply). reply.line) replies ≡ map (λ (operation : Operation). operation.line) operations
 lines_told [] [] first last long leads = refl
 lines_told [] (reply ∷ replies) first last long leads = absurd (omega (arith, long))
@@ -108,3 +114,9 @@ served_run batch room last served right slots pushes =
       slots = slots;
       pushes = pushes;
     }
+
+-- What the loop of a run leaves behind is a run of its script.
+pub run_of_served : (script : Script) (sources : Sources) (slots room : ℕ) (outcome : Outcome) (last : Session) → IsServed (record { lanes = script.lanes; operations = script.operations; sources = sources; slots = slots; outcome = outcome }) room last → IsRun script sources slots outcome
+run_of_served script sources slots room outcome last served =
+    let batch : Batch = record { lanes = script.lanes; operations = script.operations; sources = sources; slots = slots; outcome = outcome } in
+    served_run batch room last served (replies_are_right batch room last served) (slots_keep batch room last served) (pushes_pass_over batch room last served)

@@ -32,6 +32,7 @@ use Rattle.tz_run.proofs.Leads.{one_if, holds_made, change_of, how_many, write_o
 abbrev pub names_of : List Hold → List (List ℕ)
 names_of holds = map (λ (hold : Hold). hold.name) holds
 
+-- the names without one that is dropped
 names_without : (name : List ℕ) (holds : List Hold) → names_of (filter (λ (hold : Hold). not (is_exactly hold.name name)) holds) ≡ filter (λ other. not (is_exactly other name)) (names_of holds)
 names_without name [] = refl
 names_without name (hold ∷ holds) =
@@ -53,12 +54,14 @@ names_made session line _ = refl
 abbrev pub UpTo : ℕ → List Operation → Type 0
 UpTo round operations = IsTrue (list_all (λ (it : Operation). nat_le it.round round) operations)
 
+-- one more of the round itself
 up_to_push : (operations : List Operation) (here : Operation) → UpTo here.round operations → UpTo here.round (operations ++ here ∷ [])
 up_to_push operations here up =
     let test : Operation → Bool = λ it. nat_le it.round here.round in
     list_all-append test operations (here ∷ [])
     ∙ and_from (list_all test operations) (list_all test (here ∷ [])) up (and_from (nat_le here.round here.round) true (le-leb here.round here.round (omega arith)) refl)
 
+-- and so is the last of them
 up_to_last : (round : ℕ) (operations : List Operation) (here : Operation) → UpTo round (operations ++ here ∷ []) → here.round ≤ round
 up_to_last round operations here up =
     let test : Operation → Bool = λ it. nat_le it.round round in
@@ -88,6 +91,7 @@ abbrev Tracks : List Operation → Session → Type 0
 Tracks done session =
     (round : ℕ) → UpTo round done → names_open [] (ops_in 1 round done) ≡ Some (names_of (in_round round session).holds)
 
+-- before any operation no name is open
 opening_tracks : (sources : Sources) (slots room : ℕ) → Tracks [] (opening_session sources slots room)
 opening_tracks sources slots room round up =
     let first : Session = opening_session sources slots room in
@@ -132,6 +136,7 @@ tracks_step done before after here lane low may steps tracks round up =
 
 -- ---- what may stand ----
 
+-- where all may stand, each may stand behind those before it
 may_after : (names : List (List ℕ)) (some : List Op) (op : Op) (more : List Op) (open_names left : List (List ℕ)) → names_open names some ≡ Some open_names → names_open names (some ++ op ∷ more) ≡ Some left → may_stand open_names op ≡ true
 may_after names [] op more open_names left e all =
     let same : names ≡ open_names = cc in
@@ -160,12 +165,14 @@ parted lane round before later here inside =
 
 -- Operations of one lane that keep the rules on holds, and whose rounds don't fall.
 module _ (operations : List Operation) (keeps : KeepsHolds operations) (ours : IsTrue (list_all (λ (it : Operation). it.lane == 1) operations)) (in_rounds : RoundsDontFall operations) where
+  -- each operation is of the one lane
   of_lane : (before later : List Operation) (here : Operation) → operations ≡ before ++ here ∷ later → (here.lane == 1) ≡ true
   of_lane before later here is =
       let test : Operation → Bool = λ it. it.lane == 1 in
       let all : (list_all test before && list_all test (here ∷ later)) ≡ true = sym (list_all-append test before (here ∷ later)) ∙ sym (ap (list_all test) is) ∙ ours in
       (and_parts (here.lane == 1) (list_all test later) (and_parts (list_all test before) (list_all test (here ∷ later)) all).1).0
 
+  -- each may stand where the session tracks those before it
   may_stand_here : (before later : List Operation) (here : Operation) (session : Session) → operations ≡ before ++ here ∷ later → Tracks before session → may_stand (names_of (in_round here.round session).holds) here.op ≡ true
   may_stand_here before later here session is tracks =
       let inside : is_in 1 here.round here ≡ true = and_from (here.lane == 1) (here.round == here.round) (of_lane before later here is) (eq-eqb here.round here.round refl) in
@@ -173,6 +180,7 @@ module _ (operations : List Operation) (keeps : KeepsHolds operations) (ours : I
       sym (ap (λ (those : List Operation). names_open [] (ops_in 1 here.round those)) is ∙ ap (names_open []) (parted 1 here.round before later here inside)) ∙ keeps 1 here.round in
       may_after [] (ops_in 1 here.round before) here.op (ops_in 1 here.round later) (names_of (in_round here.round session).holds) [] (tracks here.round (rounds_before operations before later here in_rounds is)) whole
 
+  -- sessions track what is done up to them
   tracks : (done coming later : List Operation) (replies : List Reply) (first last : Session) → length replies ≡ length coming → operations ≡ done ++ coming ++ later → Tracks done first → Leads first (each_answered coming replies) last → Tracks (done ++ coming) last
   tracks done [] later replies first last long is kept leads =
       subst (λ (session : Session). Tracks (done ++ []) session) leads (subst (λ (those : List Operation). Tracks those first) (sym (append-nil done)) kept)
@@ -195,9 +203,11 @@ module _ (operations : List Operation) (keeps : KeepsHolds operations) (ours : I
 
 -- ---- room ----
 
+-- one more operation in front
 changes_cons : (here : Operation) (operations : List Operation) → change_count (here ∷ operations) ≡ one_if (is_change here.op) + change_count operations
 changes_cons here operations = sum_by-cons (λ (it : Operation). one_if (is_change it.op)) here operations
 
+-- a change adds its write
 longer_by : (change : Option Change) (journal : List Write) → length (journal_with change journal) ≡ length journal + how_many change
 longer_by None journal = omega arith
 longer_by (Some change) journal = length_push journal (write_of change journal)

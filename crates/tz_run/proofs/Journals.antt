@@ -38,9 +38,11 @@ journal_replays batch room last served =
 
 -- ---- the writes ----
 
+-- a change at a position
 abbrev placed : ℕ → Change → PlacedChange
 placed w change = record { w = w; change = change }
 
+-- the change that a reply tells of is the one that its answer makes
 told_made : (line round lane said w : ℕ) (op : Op) (answer : Answer) → change_told (record { operation = record { line = line; round = round; lane = lane; op = op }; reply = record { line = said; w = w; answer = answer } }) ≡ option_map (placed w) (change_made op answer)
 told_made line round lane said w (ops.Reload src) (answers.Pushed n slot) = refl
 told_made line round lane said w (ops.Reload src) (answers.Erased n slot gone) = refl
@@ -98,6 +100,7 @@ each_ours (operation ∷ operations) (reply ∷ replies) ours =
     let parts = and_parts (operation.lane == 1) (list_all (λ (it : Operation). it.lane == 1) operations) ours in
     and_from (operation.lane == 1) (list_all is_ours (each_answered operations replies)) parts.0 (each_ours operations replies parts.1)
 
+-- writes by the first reader are by readers of the one lane
 below_lanes : (lanes : ℕ) (journal : List Write) → lanes ≡ 1 → list_all (λ (write : Write). write.by == 0) journal ≡ true → list_all (λ (write : Write). nat_lt write.by lanes) journal ≡ true
 below_lanes lanes [] one first = refl
 below_lanes lanes (write ∷ later) one first =

@@ -53,6 +53,7 @@ leads_one_more first middle last (other ∷ front) here leads steps =
 
 -- ---- what an answer makes of a session ----
 
+-- the push that a reload makes
 abbrev push_made : Op → ℕ → ℕ → Option Change
 push_made (ops.Reload src) n slot = Some (Push n src slot)
 push_made _ n slot = None
@@ -114,26 +115,31 @@ stays before after holds same is =
     let holding : List Hold → Session = λ those. session_with before None those in
     is ∙ ap holding (sym same)
 
+-- what each answer to `look` makes
 look_made : (before after : Session) (line round lane : ℕ) (answer : Answer) → ServesLook before answer after → IsMade before (record { line = line; round = round; lane = lane; op = ops.Look }) answer after
 look_made before after line round lane (answers.Front n slot) served =
     record { may = tt; told = refl; asked = omega arith; is = stays before after before.holds refl served.1 }
 look_made before after line round lane _ served = absurd served
 
+-- to `hold`
 hold_made : (before after : Session) (line round lane : ℕ) (name : List ℕ) (answer : Answer) → ServesHold before line name answer after → IsMade before (record { line = line; round = round; lane = lane; op = ops.Hold name }) answer after
 hold_made before after line round lane name (answers.Held n slot) served =
     record { may = tt; told = refl; asked = omega arith; is = served.1 }
 hold_made before after line round lane name _ served = absurd served
 
+-- to `drop`
 drop_made : (before after : Session) (line round lane : ℕ) (name : List ℕ) (answer : Answer) → ServesDrop before name answer after → IsMade before (record { line = line; round = round; lane = lane; op = ops.Drop name }) answer after
 drop_made before after line round lane name (answers.Dropped n slot) served =
     record { may = tt; told = refl; asked = omega arith; is = served.3 }
 drop_made before after line round lane name _ served = absurd served
 
+-- to a lookup, which leaves the holds
 lookup_made : (before after : Session) (operation : Operation) (pick : Pick) (finds : Edition → Found → Type 0) (answer : Answer) → holds_made before operation.line operation.op ≡ before.holds → ServesLookup before pick finds answer after → IsMade before operation answer after
 lookup_made before after operation pick finds (answers.On n slot found) same served =
     record { may = tt; told = refl; asked = omega arith; is = stays before after (holds_made before operation.line operation.op) same served.4 }
 lookup_made before after operation pick finds _ same served = absurd served
 
+-- to `reload`
 reload_made : (before after : Session) (line round lane src : ℕ) (answer : Answer) → ServesReload before src answer after → IsMade before (record { line = line; round = round; lane = lane; op = ops.Reload src }) answer after
 reload_made before after line round lane src (answers.Refused file at cause) served =
     record { may = tt; told = refl; asked = omega arith; is = stays before after before.holds refl served.1 }
@@ -145,6 +151,7 @@ reload_made before after line round lane src answers.Full served =
     record { may = tt; told = refl; asked = omega arith; is = stays before after before.holds refl served.3 }
 reload_made before after line round lane src _ served = absurd served
 
+-- to `erase`
 erase_made : (before after : Session) (line round lane : ℕ) (pick : Pick) (answer : Answer) → ServesErase before pick answer after → IsMade before (record { line = line; round = round; lane = lane; op = ops.Erase pick }) answer after
 erase_made before after line round lane pick (answers.NotListed n slot) served =
     record { may = tt; told = refl; asked = omega arith; is = stays before after before.holds refl served.4 }
@@ -154,11 +161,13 @@ erase_made before after line round lane pick (answers.Erased n slot gone) served
     record { may = (served.3, tt); told = refl; asked = omega arith; is = served.4 }
 erase_made before after line round lane pick _ served = absurd served
 
+-- to `list`
 list_made : (before after : Session) (line round lane : ℕ) (answer : Answer) → ServesList before answer after → IsMade before (record { line = line; round = round; lane = lane; op = ops.List }) answer after
 list_made before after line round lane (answers.Listed listing) served =
     record { may = tt; told = refl; asked = omega arith; is = stays before after before.holds refl served.2 }
 list_made before after line round lane _ served = absurd served
 
+-- to each operation, by its parts
 by_op : (before after : Session) (line round lane : ℕ) (op : Op) (answer : Answer) → Serves before (record { line = line; round = round; lane = lane; op = op }) answer after → IsMade before (record { line = line; round = round; lane = lane; op = op }) answer after
 by_op before after line round lane ops.Look answer served = look_made before after line round lane answer served
 by_op before after line round lane (ops.Hold name) answer served = hold_made before after line round lane name answer served
@@ -177,6 +186,7 @@ by_op before after line round lane (ops.Reload src) answer served = reload_made 
 by_op before after line round lane (ops.Erase v) answer served = erase_made before after line round lane v answer served
 by_op before after line round lane ops.List answer served = list_made before after line round lane answer served
 
+-- what is answered to an operation settles the session after it
 pub served_made : (before after : Session) (operation : Operation) (answer : Answer) → Serves before operation answer after → IsMade before operation answer after
 served_made before after operation answer served =
     by_op before after operation.line operation.round operation.lane operation.op answer served
@@ -207,6 +217,7 @@ step_journal before after here steps =
 abbrev pub IsSameList : Session → Session → Type 0
 IsSameList first last = (last.sources ≡ first.sources) × (last.slots ≡ first.slots) × (last.room ≡ first.room)
 
+-- what the journal, the round and the holds don't touch, a step keeps
 step_keeps : {X : Type 0} (part : Session → X) (before after : Session) (here : Answered) → ((session : Session) (journal : List Write) (round : ℕ) (holds : List Hold) → part (record session { journal = journal; round = round; holds = holds }) ≡ part session) → Steps before here after → part after ≡ part before
 step_keeps part before after here keeps steps =
     let now = in_round here.operation.round before in
@@ -214,6 +225,7 @@ step_keeps part before after here keeps steps =
     ∙ keeps now (journal_with (change_of here) now.journal) now.round (holds_made now here.operation.line here.operation.op)
     ∙ same_in_round part before here.operation.round (keeps before before.journal here.operation.round [])
 
+-- so a step keeps the sources, the slots and the room
 step_same : (before after : Session) (here : Answered) → Steps before here after → IsSameList before after
 step_same before after here steps = (
   step_keeps (λ (session : Session). session.sources) before after here (λ session journal round holds. refl) steps,
@@ -221,6 +233,7 @@ step_same before after here steps = (
   step_keeps (λ (session : Session). session.room) before after here (λ session journal round holds. refl) steps,
 )
 
+-- and so do all
 pub same_list : (first last : Session) (those : List Answered) → Leads first those last → (last.sources ≡ first.sources) × (last.slots ≡ first.slots) × (last.room ≡ first.room)
 same_list first last [] leads =
     subst (λ (session : Session). IsSameList first session) leads (refl, refl, refl)
@@ -235,6 +248,7 @@ same_list first last (here ∷ later) leads =
 abbrev pub tells : Answered → Bool
 tells here = tells_write here.reply.answer
 
+-- the writes that a change adds, one or none
 writes_added : (change : Option Change) (journal : List Write) → (writes : List Write) × (journal_with change journal ≡ journal ++ writes) × (length writes ≡ how_many change)
 writes_added None journal = ([], sym (append-nil journal), refl)
 writes_added (Some change) journal = (write_of change journal ∷ [], refl, refl)
@@ -275,6 +289,7 @@ pub record IsSound (session : Session) : Type 0 where
   pub by_first : IsTrue (list_all (λ (write : Write). write.by == 0) session.journal)
   pub held : (hold : Hold) → Contains session.holds hold → IsHeldIn (list_now session) hold
 
+-- the slot of each open hold keeps its number, as a fact of all
 all_held : (session : Session) → IsSound session → All (IsHeldIn (list_now session)) session.holds
 all_held session sound =
     All-weaker (Contains session.holds) (IsHeldIn (list_now session)) sound.held session.holds (All-contains_itself session.holds)
@@ -290,6 +305,7 @@ sound_with session holds all sound =
       held = λ hold has. All-contains (IsHeldIn (list_now session)) holds hold all has;
     }
 
+-- the opening is sound
 pub opening_sound : (sources : Sources) (slots room : ℕ) → 0 < slots → IsSound (opening_session sources slots room)
 opening_sound sources slots room some =
     record {
@@ -300,6 +316,7 @@ opening_sound sources slots room some =
       held = λ hold has. absurd (omega (arith, has.1));
     }
 
+-- the slot of the first of those that stand keeps its number
 kept_of_front : (bound pushed : ℕ) (kept : List ℕ) (listed : List Edition) → Stands bound kept listed → (front_of listed).n ≡ pushed + 1 → slice_get kept (front_of listed).slot ≡ Some (front_of listed).n
 kept_of_front bound pushed kept [] stands front = absurd (omega (arith, front))
 kept_of_front bound pushed kept (edition ∷ older) stands front =
@@ -311,12 +328,14 @@ newest_kept session sound =
     let orderly = replay_orderly session.slots session.journal sound.some sound.replay in
     kept_of_front (length (pushes session.journal) + 2) (length (pushes session.journal)) (list_now session).kept (list_now session).listed orderly.stands orderly.front
 
+-- a write to another slot leaves what a slot keeps
 kept_elsewhere : (kept : List ℕ) (slot n place number : ℕ) → (place ≡ slot → ⊥) → slice_get kept place ≡ Some number → slice_get (set kept slot n) place ≡ Some number
 kept_elsewhere kept slot n place number apart is =
     let inside : place < length (set kept slot n) = rw (length-set kept slot n) (slice_get_within kept place number is) in
     slice_get-get_or (set kept slot n) place 0 inside
     ∙ ap Some (get_or-set_other kept slot place n 0 apart ∙ get_or_from_slice_get kept place number 0 is)
 
+-- a write to a slot that no hold is in leaves what their slots keep
 spared : (kept : List ℕ) (slot n : ℕ) (holds : List Hold) → is_slot_held slot holds ≡ false → All (λ (hold : Hold). slice_get kept hold.slot ≡ Some hold.n) holds → All (λ (hold : Hold). slice_get (set kept slot n) hold.slot ≡ Some hold.n) holds
 spared kept slot n [] free all = All-nil (λ (hold : Hold). slice_get (set kept slot n) hold.slot ≡ Some hold.n)
 spared kept slot n (hold ∷ holds) free all =
@@ -332,6 +351,7 @@ held_after : (state : ListState) (change : Change) (holds : List Hold) → Spare
 held_after state (Push n src slot) holds free all = spared state.kept slot n holds free all
 held_after state (Erase after gone) holds free all = all
 
+-- a change that the list allows
 sound_changed : (session : Session) (change : Option Change) → MayChange session change session.holds → IsSound session → IsSound (session_with session change session.holds)
 sound_changed session None may sound = sound
 sound_changed session (Some change) may sound =
@@ -348,6 +368,7 @@ sound_changed session (Some change) may sound =
       held = λ hold has. subst (λ (it : ListState). IsHeldIn it hold) (sym state) (All-contains (IsHeldIn (after_change (list_now session) change)) session.holds hold all has);
     }
 
+-- the holds after an operation
 sound_holds : (session : Session) (line : ℕ) (op : Op) → IsSound session → All (IsHeldIn (list_now session)) (holds_made session line op)
 sound_holds session line ops.Look sound = all_held session sound
 sound_holds session line (ops.Hold name) sound =
@@ -356,6 +377,7 @@ sound_holds session line (ops.Drop name) sound =
     All-filter (λ (hold : Hold). not (is_exactly hold.name name)) (IsHeldIn (list_now session)) session.holds (all_held session sound)
 sound_holds session line _ sound = all_held session sound
 
+-- what an answer makes
 sound_made : (before after : Session) (operation : Operation) (answer : Answer) → IsMade before operation answer after → IsSound before → IsSound after
 sound_made before after operation answer made sound =
     let holds = holds_made before operation.line operation.op in
@@ -364,6 +386,7 @@ sound_made before after operation answer made sound =
     (sound_changed holding (change_made operation.op answer) made.may
     (sound_with before holds (sound_holds before operation.line operation.op sound) sound))
 
+-- a sound session is sound in each round
 pub sound_in_round : (round : ℕ) (session : Session) → IsSound session → IsSound (in_round round session)
 sound_in_round round session sound =
     let fresh : Session = record session { round = round; holds = [] } in
@@ -396,23 +419,22 @@ pub record Meeting (batch : Batch) (room : ℕ) (last : Session) (before later :
   pub after : Session
   pub leads : Leads (opening_session batch.sources batch.slots room) before met
   pub steps : Steps met here after
-  pub rest : Leads after later last
   pub sources : met.sources ≡ batch.sources
   pub slots : met.slots ≡ batch.slots
-  pub room_is : met.room ≡ room
   pub sound : IsSound met
   pub front_met : take (length met.journal) batch.outcome.journal ≡ met.journal
-  pub front_after : take (length after.journal) batch.outcome.journal ≡ after.journal
   pub tail : List Write
   pub journal : batch.outcome.journal ≡ after.journal ++ tail
   pub list_met : list_at batch (length met.journal) ≡ list_now met
   pub list_after : list_at batch here.reply.w ≡ list_now after
   pub position : here.reply.w ≡ length after.journal
 
+-- the list of the batch at a position is the session's whose journal ends there
 list_there : (batch : Batch) (session : Session) → session.slots ≡ batch.slots → take (length session.journal) batch.outcome.journal ≡ session.journal → list_at batch (length session.journal) ≡ list_now session
 list_there batch session slots front =
     ap (state_after batch.slots) front ∙ ap (λ (count : ℕ). state_after count session.journal) (sym slots)
 
+-- each operation of a batch that is served has met a session
 pub session_met : (batch : Batch) (room : ℕ) (last : Session) (before later : List Answered) (here : Answered) → IsServed batch room last → answered batch ≡ before ++ here ∷ later → Meeting batch room last before later here
 session_met batch room last before later here served is =
     let first : Session = opening_session batch.sources batch.slots room in
@@ -432,13 +454,10 @@ session_met batch room last before later here served is =
           after = after;
           leads = leads;
           steps = rest.1;
-          rest = rest.2;
           sources = same.0;
           slots = same.1;
-          room_is = same.2;
           sound = leads_sound (opening_session batch.sources batch.slots room) met before leads (opening_sound batch.sources batch.slots room served.some_slots);
           front_met = front_met;
-          front_after = front_after;
           tail = grows.0;
           journal = sym served.journal ∙ grows.1;
           list_met = list_there batch met same.1 front_met;

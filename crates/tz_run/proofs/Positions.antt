@@ -29,6 +29,7 @@ one_longer before after here steps =
 abbrev writes_before : ℕ → List Answered → ℕ
 writes_before round those = count_by (is_write_before round) those
 
+-- one more operation in front
 counted_cons : (round : ℕ) (here : Answered) (those : List Answered) → writes_before round (here ∷ those) ≡ one_if (is_write_before round here) + writes_before round those
 counted_cons round here those = sum_by-cons (λ (it : Answered). one_if (is_write_before round it)) here those
 
@@ -36,6 +37,7 @@ counted_cons round here those = sum_by-cons (λ (it : Answered). one_if (is_writ
 abbrev InRounds : (ℕ → Type 0) → List Answered → Type 0
 InRounds fits those = (before later : List Answered) (it : Answered) → those ≡ before ++ it ∷ later → fits it.operation.round
 
+-- and those behind the first
 rest_in : (fits : ℕ → Type 0) (here : Answered) (those : List Answered) → InRounds fits (here ∷ those) → InRounds fits those
 rest_in fits here those all before later it is = all (here ∷ before) later it (ap (λ (more : List Answered). here ∷ more) is)
 
@@ -55,6 +57,7 @@ all_before round (here ∷ those) all =
     let same : one_if (is_write_before round here) ≡ one_if (tells here) = ap (λ (test : Bool). one_if (test && tells here)) earlier in
     omega (arith, counted_cons round here those, same, all_before round those (rest_in (λ other. other < round) here those all), sum_by-cons (λ (it : Answered). one_if (tells it)) here those)
 
+-- a second test makes it no more
 one_at_most : (early tells_it : Bool) → one_if (early && tells_it) ≤ one_if tells_it
 one_at_most true tells_it = omega arith
 one_at_most false true = omega arith
@@ -75,12 +78,14 @@ module _ (batch : Batch) (room : ℕ) (last : Session) (before later : List Answ
       ap (λ (those : List Answered). writes_before round those) is
       ∙ sum_by-append (λ (it : Answered). one_if (is_write_before round it)) before (here ∷ later)
 
+  -- no operation from this one on is of an earlier round
   from_here : InRounds (λ other. here.operation.round ≤ other) (here ∷ later)
   from_here [] others it split = let same : here ≡ it = cc in omega (arith, ap (λ (one : Answered). one.operation.round) same)
   from_here (first ∷ front) others it split =
       let behind : later ≡ front ++ it ∷ others = cc in
       served.in_order.rounds before front others here it (is ∙ ap (λ (those : List Answered). before ++ here ∷ those) behind ∙ sym (append_assoc before (here ∷ front) (it ∷ others)))
 
+  -- no operation before this one is of a later round
   up_to_here : InRounds (λ other. other < here.operation.round + 1) before
   up_to_here front middle it split =
       let low : it.operation.round ≤ here.operation.round =
