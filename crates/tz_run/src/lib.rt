@@ -6,8 +6,10 @@
 //! for scripts, on `tz_version` for versions, on `pin_core` for the list, and on `tz_batch` for what a run means.
 #![tactic(auto)]
 
+mod clock;
 mod gate;
 mod hold;
+mod lookup;
 mod run;
 
 pub use gate::{Gate, OpenGate};
