@@ -15,3 +15,4 @@ pub mod NamedHolds
 pub mod Passing
 pub mod Stocks
 pub mod Serves
+pub mod LookupLemmas
