@@ -6,7 +6,6 @@
 //! for scripts, on `tz_version` for versions, on `pin_core` for the list, and on `tz_batch` for what a run means.
 #![tactic(auto)]
 
-<<<<<<< HEAD
 mod clock;
 mod desk;
 mod erase;
