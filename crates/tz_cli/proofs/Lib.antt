@@ -1,6 +1,7 @@
 pub mod Texts
 pub mod InfoLine
 pub mod FewWords
+pub mod BatchWords
 pub mod Parts
 pub mod Contents
 pub mod ClockLine

@@ -19,6 +19,7 @@ use Rattle.tz_specs.specs.LeapText.{ReadsLeaps}
 use Rattle.tz_output.specs.Choice.{choice_word}
 use Rattle.tz_output.specs.Conversion.{conversion_word}
 use Rattle.tz_cli.specs.Conversion.{IsConvertible}
+use Rattle.tz_cli.specs.BatchCommand.{BatchCommand, IsBatchCommand}
 use Rattle.tz_cli.specs.Command.{Command, Info, Local, Moves, Days, Tzif, Dump, Check, Clock, IsCommand, day_count_of, short_year_of}
 use Rattle.tz_cli.specs.Info.{InfoAnswers}
 use Rattle.tz_text.specs.LocalTime.{local_time_of}
@@ -131,6 +132,24 @@ one_keyword words a b first second =
 differ : (word other : List ℕ) → word ≡ other → pointwise nat_eq word other ≡ false → pointwise nat_eq other other ≡ true → ⊥
 differ word other same apart alike =
     let never : true ≡ false = sym alike ∙ ap (λ (it : List ℕ). pointwise nat_eq it other) (sym same) ∙ apart in cc
+
+-- the keyword of no command is `batch`
+not_batch : (command : Command) → codes "batch" ≡ keyword command → ⊥
+not_batch (Info text zone t) same = differ (codes "batch") (codes "info") same refl refl
+not_batch (Local text zone l choice) same = differ (codes "batch") (codes "local") same refl refl
+not_batch (Moves text zone from to) same = differ (codes "batch") (codes "moves") same refl refl
+not_batch (Days text zone first count) same = differ (codes "batch") (codes "days") same refl refl
+not_batch (Tzif text zone first last) same = differ (codes "batch") (codes "tzif") same refl refl
+not_batch (Dump text from to zone) same = differ (codes "batch") (codes "dump") same refl refl
+not_batch (Check text) same = differ (codes "batch") (codes "check") same refl refl
+not_batch (Clock leaps conversion count) same = differ (codes "batch") (codes "clock") same refl refl
+
+-- the words of `batch` are those of no other command
+pub batch_alone : (words : List (List ℕ)) (batch : BatchCommand) (command : Command) → IsBatchCommand words batch → IsCommand words command → ⊥
+batch_alone words batch command is other =
+    let there = begins words command other in
+    let are : codes "batch" ∷ batch.script ∷ is.number ∷ batch.leaps ∷ is.named ≡ keyword command ∷ there.0 = sym is.words_are ∙ there.1 in
+    not_batch command cc
 
 -- the words are those of at most one command
 pub one_command : (words : List (List ℕ)) (a b : Command) → IsCommand words a → IsCommand words b → a ≡ b
@@ -405,7 +424,7 @@ clock_once text conversion number statuses.Range s line other a b = absurd b
 clock_once text conversion number r s line other a b = absurd a
 
 -- contents are those of one source, with a version that may be given
-same_source : (text : NamedText) (contents : List (List ℕ)) (a b : Source) → IsSourceOf text contents a → IsSourceOf text contents b → a ≡ b
+pub same_source : (text : NamedText) (contents : List (List ℕ)) (a b : Source) → IsSourceOf text contents a → IsSourceOf text contents b → a ≡ b
 same_source text contents a b first second = by_parts (first.version_is ∙ sym second.version_is) (first.files_are ∙ sym second.files_are)
   where
     by_parts : a.version ≡ b.version → a.files ≡ b.files → a ≡ b

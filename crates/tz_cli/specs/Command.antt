@@ -12,6 +12,8 @@ use Rattle.tz_output.specs.declared.choice.Choice.{Choice}
 use Rattle.tz_output.specs.declared.conversion.Conversion.{Conversion}
 use Rattle.tz_text.specs.LocalTime.{local_time_of}
 use Rattle.tz_cli.specs.NamedText.{NamedText, named_text_of, parts_of}
+use Rattle.tz_cli.specs.BatchCommand.{BatchCommand, IsBatchCommand, texts_in}
+use Rattle.tz_cli.specs.declared.batch_line.BatchLine.{BatchLine}
 use Rattle.tz_cli.specs.declared.text_word.TextWord.{TextWord}
 use Rattle.tz_cli.specs.declared.command_line.CommandLine.{CommandLine}
 use Rattle.tz_cli.specs.declared.command_line.CommandLine.TheVariants as lines
@@ -126,12 +128,16 @@ IsCommand words (Dump text from to zone) = IsDumpCommand words text from to zone
 IsCommand words (Check text) = IsCheck words text
 IsCommand words (Clock leaps conversion count) = IsClock words leaps conversion count
 
--- the words match no form
-abbrev pub IsNoCommand : List (List ℕ) → Type 0
-IsNoCommand words = (command : Command) → ¬ (IsCommand words command)
+-- the words match no form, that of `batch` neither
+pub record IsNoCommand (words : List (List ℕ)) : Type 0 where
+  pub other : (command : Command) → ¬ (IsCommand words command)
+  pub no_batch : (batch : BatchCommand) → ¬ (IsBatchCommand words batch)
 
--- The names of the files that a command reads, in this order. `-` in the place of a leap text's file stands for a
--- text without bytes, and none is read.
+-- The name of a leap text's file, by the word for the text. `-` stands for a text without bytes, and no file is read.
+abbrev pub leap_files : List ℕ → List (List ℕ)
+leap_files leaps = if pointwise nat_eq leaps (codes "-") then [] else leaps ∷ []
+
+-- the names of the files that a command reads, in this order
 abbrev pub files_of : Command → List (List ℕ)
 files_of (Info text zone instant) = text.files
 files_of (Local text zone l choice) = text.files
@@ -140,7 +146,7 @@ files_of (Days text zone first count) = text.files
 files_of (Tzif text zone first last) = text.files
 files_of (Dump text from to zone) = text.files
 files_of (Check text) = text.files
-files_of (Clock leaps conversion count) = if pointwise nat_eq leaps (codes "-") then [] else leaps ∷ []
+files_of (Clock leaps conversion count) = leap_files leaps
 
 -- the text that a word names, which was taken apart
 abbrev pub named : TextWord → NamedText
@@ -156,3 +162,8 @@ meant (lines.Tzif text zone first last) = Tzif (named text) zone.now first last
 meant (lines.Dump text from to zone) = Dump (named text) from to zone.now
 meant (lines.Check text) = Check (named text)
 meant (lines.Clock leaps conversion count) = Clock leaps.now conversion count
+
+-- the batch that a line stands for, which was read from words
+abbrev pub batch_meant : BatchLine → BatchCommand
+batch_meant line =
+    record { script = line.script.now; slots = line.slots; leaps = line.leaps.now; texts = texts_in line.texts.now }

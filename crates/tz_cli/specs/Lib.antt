@@ -1,5 +1,6 @@
 pub mod Conversion
 pub mod NamedText
+pub mod BatchCommand
 pub mod Command
 pub mod Line
 pub mod Text

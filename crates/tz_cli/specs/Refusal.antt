@@ -16,6 +16,7 @@ refusal_status refusals.Read = statuses.Read
 refusal_status refusals.TooLarge = statuses.TooLarge
 refusal_status (refusals.Text fault) = statuses.Text
 refusal_status (refusals.Leaps fault) = statuses.Text
+refusal_status (refusals.Script fault) = statuses.Script
 refusal_status refusals.NoZone = statuses.NoZone
 refusal_status refusals.Range = statuses.Range
 refusal_status refusals.Types = statuses.Types
@@ -28,6 +29,8 @@ refusal_line refusals.Read = codes "read\n"
 refusal_line refusals.TooLarge = codes "toolarge\n"
 refusal_line (refusals.Text fault) = fault_line (codes "text") fault
 refusal_line (refusals.Leaps fault) = fault_line (codes "leaps") fault
+refusal_line (refusals.Script fault) =
+    fault_line (codes "script") (record { file = 0; line = fault.line; cause = fault.cause })
 refusal_line refusals.NoZone = codes "nozone\n"
 refusal_line refusals.Range = codes "range\n"
 refusal_line refusals.Types = codes "types\n"

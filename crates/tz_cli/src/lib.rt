@@ -6,9 +6,11 @@
 //! LAST` the zone as a file of RFC 8536 over years, `dump TEXT FROM TO ZONE` all ranges that meet a stretch of time,
 //! `check TEXT` the counts of what a text has, and `clock LEAPS CONV X` a count of one clock by that of another. TEXT
 //! names up to sixteen files with commas between, and `=VERSION,` before them gives the text's version. A command that
-//! is refused prints why.
+//! is refused prints why. The words of `batch SCRIPT SLOTS LEAPS TEXT..` are matched here and left to the layer above,
+//! which takes from here how files are read and lines printed.
 #![tactic(auto)]
 
+mod batch_line;
 mod check;
 mod clock;
 mod command_line;
@@ -32,5 +34,10 @@ mod words;
 mod zone_dump;
 mod zones;
 
+pub use batch_line::BatchLine;
+pub use printing::{print, print_refusal};
+pub use reading::{read_files, read_leaps, read_one};
+pub use refusal::Refusal;
 pub use status::{Plain, Status};
+pub use text_word::TextWord;
 pub use top::run_plain;

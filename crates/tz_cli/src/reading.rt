@@ -3,7 +3,7 @@ ghost use Rattle.std.specs.Prelude.{◌≡◌, ◌≤◌, ℕ, List, ◌∷◌, 
 ghost use Rattle.tz_types.specs.Limit.{most_bytes};
 ghost use Rattle.tz_types.specs.Source.{bytes_together};
 ghost use Rattle.tz_cli.specs.NamedText.{parts_of};
-ghost use Rattle.tz_cli.specs.Command.{files_of, meant};
+ghost use Rattle.tz_cli.specs.Command.{files_of, leap_files, meant};
 ghost use Rattle.tz_cli.specs.Outcome.{MayRead, MayReadAll, Failed};
 ghost use Rattle.tz_cli.specs.Refusal.{RefusesFile, RefusesContents};
 
@@ -41,9 +41,14 @@ fn read_file<F: Files>(
 
 /// The contents of files whose names have commas between, where they aren't too large together. Each file is read with
 /// the limit that the earlier ones leave.
-fn read_files<F: Files>(alloc: Global, names: &str, files: &mut F) -> Result<Items<Text>, Refusal>
+pub fn read_files<F: Files>(
+    alloc: Global,
+    names: &str,
+    files: &mut F,
+) -> Result<Items<Text>, Refusal>
     ensures contents { IfOk result (λ contents. MayReadAll (F.told files.old) (parts_of names.now) contents) }
     ensures short { IfOk result (λ contents. bytes_together contents ≤ most_bytes) }
+    ensures unharmed { OnOk result ((other : List ℕ) → F.faults files.new other ≡ F.faults files.old other) }
     ensures refused { IfErr result (λ refusal. RefusesContents (F.told files.old) (parts_of names.now) (Failed (F.faults files.old) (F.faults files.new)) refusal) }
     ensures told { F.told files.new ≡ F.told files.old }
 {
@@ -66,9 +71,10 @@ fn read_files<F: Files>(alloc: Global, names: &str, files: &mut F) -> Result<Ite
 }
 
 /// The content of the one file of that name.
-fn read_one<F: Files>(alloc: Global, name: &str, files: &mut F) -> Result<Items<Text>, Refusal>
+pub fn read_one<F: Files>(alloc: Global, name: &str, files: &mut F) -> Result<Items<Text>, Refusal>
     ensures contents { IfOk result (λ contents. MayReadAll (F.told files.old) (name.now ∷ []) contents) }
     ensures short { IfOk result (λ contents. bytes_together contents ≤ most_bytes) }
+    ensures unharmed { OnOk result ((other : List ℕ) → F.faults files.new other ≡ F.faults files.old other) }
     ensures refused { IfErr result (λ refusal. RefusesContents (F.told files.old) (name.now ∷ []) (Failed (F.faults files.old) (F.faults files.new)) refusal) }
     ensures told { F.told files.new ≡ F.told files.old }
 {
@@ -83,7 +89,25 @@ fn read_one<F: Files>(alloc: Global, name: &str, files: &mut F) -> Result<Items<
     Ok(contents)
 }
 
-/// The contents of the files that a command reads. `clock` with `-` reads none.
+/// The content of the file of a leap text. The word `-` stands for no file, and none is read.
+pub fn read_leaps<F: Files>(
+    alloc: Global,
+    leaps: &str,
+    files: &mut F,
+) -> Result<Items<Text>, Refusal>
+    ensures contents { IfOk result (λ contents. MayReadAll (F.told files.old) (leap_files leaps.now) contents) }
+    ensures short { IfOk result (λ contents. bytes_together contents ≤ most_bytes) }
+    ensures unharmed { OnOk result ((other : List ℕ) → F.faults files.new other ≡ F.faults files.old other) }
+    ensures refused { IfErr result (λ refusal. RefusesContents (F.told files.old) (leap_files leaps.now) (Failed (F.faults files.old) (F.faults files.new)) refusal) }
+    ensures told { F.told files.new ≡ F.told files.old }
+{
+    match leaps {
+        "-" => Ok(Items::new(alloc)),
+        _ => read_one(alloc, leaps, files),
+    }
+}
+
+/// The contents of the files that a command reads.
 pub fn contents_of<F: Files>(
     alloc: Global,
     command: CommandLine<'_>,
@@ -102,7 +126,6 @@ pub fn contents_of<F: Files>(
         | CommandLine::Tzif { text, .. }
         | CommandLine::Dump { text, .. }
         | CommandLine::Check { text } => read_files(alloc, text.names, files),
-        CommandLine::Clock { leaps: "-", .. } => Ok(Items::new(alloc)),
-        CommandLine::Clock { leaps, .. } => read_one(alloc, leaps, files),
+        CommandLine::Clock { leaps, .. } => read_leaps(alloc, leaps, files),
     }
 }

@@ -4,7 +4,7 @@ ghost use Rattle.tz_cli.specs.Refusal.{refusal_status, refusal_line};
 use crate::Status;
 use crate::line::fault_line;
 use std::alloc::Global;
-use tz_types::{Fault, NoMemory};
+use tz_types::{Fault, LineFault, NoMemory};
 
 /// Why a command has no text.
 #[derive(Clone, Copy, Debug, PartialEq, Eq)]
@@ -15,6 +15,8 @@ pub enum Refusal {
     Text(Fault),
     /// The leap text is refused.
     Leaps(Fault),
+    /// The script is refused.
+    Script(LineFault),
     NoZone,
     Range,
     /// A file would have more types than can be numbered.
@@ -33,6 +35,7 @@ impl Refusal {
             Refusal::Read => Status::Read,
             Refusal::TooLarge => Status::TooLarge,
             Refusal::Text(_) | Refusal::Leaps(_) => Status::Text,
+            Refusal::Script(_) => Status::Script,
             Refusal::NoZone => Status::NoZone,
             Refusal::Range => Status::Range,
             Refusal::Types => Status::Types,
@@ -48,6 +51,8 @@ impl Refusal {
         let word = match self {
             Refusal::Text(fault) => return fault_line(alloc, b"text", fault),
             Refusal::Leaps(fault) => return fault_line(alloc, b"leaps", fault),
+            // A script has one file, so no number of a file is told.
+            Refusal::Script(fault) => return fault_line(alloc, b"script", fault.in_file(0)),
             Refusal::Read => b"read\n".as_slice(),
             Refusal::TooLarge => b"toolarge\n".as_slice(),
             Refusal::NoZone => b"nozone\n".as_slice(),

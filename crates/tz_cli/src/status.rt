@@ -19,7 +19,7 @@ pub enum Status {
     Designations,
 }
 
-/// What `run_plain` did: nothing, since the words are those of a command over shared lists, or all of the command.
+/// What `run_plain` did: nothing, since the words are those of `batch`, or all of the command.
 #[derive(Clone, Copy, Debug, PartialEq, Eq, Hash)]
 pub enum Plain {
     Shared,

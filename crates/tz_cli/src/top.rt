@@ -1,15 +1,17 @@
-ghost use Rattle.std.specs.Prelude.{◌≡◌, ◌≢◌, ◌⊎◌, ◌≤◌, ℕ, List, length, IfOk};
+ghost use Rattle.std.specs.Prelude.{◌≡◌, ◌≢◌, ◌⊎◌, ◌≤◌, ◌↔◌, ℕ, List, length, IfOk};
 ghost use Rattle.std.specs.List.{AllZip, Any, concat};
 ghost use Rattle.tz_types.specs.Limit.{most_bytes};
 ghost use Rattle.tz_types.specs.Source.{bytes_together};
 ghost use Rattle.tz_io.specs.Counts.{Rose};
 ghost use Rattle.tz_io.specs.Sink.{Appends, AppendsPart};
+ghost use Rattle.tz_cli.specs.BatchCommand.{BatchCommand, IsBatchCommand};
 ghost use Rattle.tz_cli.specs.Command.{Command, IsCommand, IsNoCommand, words_of, files_of, meant};
 ghost use Rattle.tz_cli.specs.Answer.{TextAnswers, IsAnswer, comes_in_pieces};
 ghost use Rattle.tz_cli.specs.Outcome.{Holds, Failed, IsDueFor, IsDue};
 ghost use Rattle.tz_cli.specs.Output.{GivesOutput, as_output, is_in_pieces};
 ghost use Rattle.tz_cli.specs.declared.status.Status.{Status};
 
+use crate::batch_line::BatchLine;
 use crate::check::check;
 use crate::clock::clock;
 use crate::command_line::CommandLine;
@@ -153,7 +155,8 @@ fn run_command<F: Files, S: Sink>(
 /// Does a whole command, `info`, `local`, `moves`, `days`, `tzif`, `dump`, `check` or `clock`, and answers its
 /// status. It prints the text of the command at `Ok`, what there is to know of the local time at `Local`, and else
 /// the line of the refusal. At `Write` a part of that was taken. `dump` prints what it has made before it makes the
-/// rest, so where memory runs out on the way its line stands behind a first part of the text.
+/// rest, so where memory runs out on the way its line stands behind a first part of the text. `batch` is left to the
+/// caller, and nothing is done.
 pub fn run_plain<F: Files, S: Sink>(
     rt: &(impl Threads + Sync),
     alloc: Global,
@@ -186,10 +189,18 @@ pub fn run_plain<F: Files, S: Sink>(
         ¬ (Rose (S.faults sink.old) (S.faults sink.new)) → ¬ (Rose (S.stalls sink.old) (S.stalls sink.new)) →
         (result ≡ Plain.Done status) ⊎ (result ≡ Plain.Done Status.Memory) }
 
-    // No command is left to shared lists, 4 doesn't come, and the files stay as they were.
-    ensures never { (result ≢ Plain.Shared) × (result ≢ Plain.Done Status.Script) }
+    // Words are left to the caller exactly where they are those of `batch`, and then nothing was read or written.
+    ensures shared { (result ≡ Plain.Shared) ↔ ((batch : BatchCommand) × IsBatchCommand (words_of words.now) batch) }
+    ensures unread { result ≡ Plain.Shared → (name : List ℕ) → F.faults files.new name ≡ F.faults files.old name }
+    ensures unwritten { result ≡ Plain.Shared → (S.taken sink.new ≡ S.taken sink.old) × (S.faults sink.new ≡ S.faults sink.old) × (S.stalls sink.new ≡ S.stalls sink.old) }
+
+    // 4 doesn't come, and the files stay as they were.
+    ensures never { result ≢ Plain.Done Status.Script }
     ensures told { F.told files.new ≡ F.told files.old }
 {
+    if BatchLine::new(words).is_some() {
+        return Plain::Shared;
+    }
     match command_of(words) {
         Some(command) => Plain::Done(run_command(rt, alloc, command, files, sink)),
         None => Plain::Done(print(sink, b"usage\n", Status::Usage)),

@@ -1,5 +1,5 @@
 ghost use Rattle.std.specs.Prelude.{◌≡◌, ℕ, List, ℤ, IsNone, IfSome};
-ghost use Rattle.tz_cli.specs.Command.{IsInfo, IsLocalCommand, IsMovesCommand, IsDaysCommand, IsTzifCommand, IsDumpCommand, IsCheck, IsClock, IsCommand, IsNoCommand, words_of, meant, day_count_of, short_year_of};
+ghost use Rattle.tz_cli.specs.Command.{IsInfo, IsLocalCommand, IsMovesCommand, IsDaysCommand, IsTzifCommand, IsDumpCommand, IsCheck, IsClock, Command, IsCommand, words_of, meant, day_count_of, short_year_of};
 ghost use Rattle.tz_cli.specs.NamedText.{NamedText};
 ghost use Rattle.tz_output.specs.declared.choice.Choice.{Choice};
 ghost use Rattle.tz_output.specs.declared.conversion.Conversion.{Conversion};
@@ -255,10 +255,10 @@ fn clock(words: &[String]) -> Option<CommandLine<'_>>
     }
 }
 
-/// The command that the words stand for. None comes exactly where they match no form. It takes no memory.
+/// The command that the words stand for. None comes exactly where they match the form of none. It takes no memory.
 pub fn command_of(words: &[String]) -> Option<CommandLine<'_>>
     ensures some { IfSome result (λ command. IsCommand (words_of words.now) (meant command)) }
-    ensures none { IsNone result → IsNoCommand (words_of words.now) }
+    ensures none { IsNone result → (command : Command) → ¬ (IsCommand (words_of words.now) command) }
 {
     if let Some(command) = info(words) {
         return Some(command);

@@ -1,0 +1,83 @@
+-- What is due of a batch, and which status is.
+use Rattle.std.proofs.Common.{◌≡◌, ℕ, true, false, ◌⊎◌, inl, inr, List, [], ◌∷◌, length, codes, Option, Result, Ok, Err, Vec, refl, sym, ap, ◌∙◌, subst}
+use Rattle.std.specs.List.{AllZip, Any}
+use Rattle.std.specs.declared.alloc.Global.{Global}
+use Rattle.tz_version.specs.declared.sources.Sources.{Sources}
+use Rattle.tz_batch.specs.declared.outcome.Outcome.{Outcome}
+use Rattle.tz_io.specs.Sink.{Appends}
+use Rattle.tz_batch.specs.OutcomeText.{outcome_text}
+use Rattle.tz_cli.specs.Answer.{IsAnswer}
+use Rattle.tz_cli.specs.BatchCommand.{BatchCommand, IsBatchCommand}
+use Rattle.tz_cli.specs.Command.{Command, IsCommand, files_of}
+use Rattle.tz_cli.specs.Outcome.{FileContents, Holds, IsDue}
+use Rattle.tz_cli.specs.Refusal.{Refuses, Gives, refusal_status, refusal_line}
+use Rattle.tz_cli.specs.declared.status.Status.{Status}
+use Rattle.tz_cli.specs.declared.status.Status.TheVariants as statuses
+use Rattle.tz_cli.specs.declared.refusal.Refusal.{Refusal}
+use Rattle.tz_cli.specs.declared.refusal.Refusal.TheVariants as refusals
+use Rattle.tz_cli.proofs.BatchWords.{one_batch}
+use Rattle.tz_cli.proofs.Once.{batch_alone}
+use Rattle.tz_top.specs.Groups.{HoldsGroups, MayReadGroups, AnyFailed}
+use Rattle.tz_top.specs.Refusal.{RefusesGroups}
+use Rattle.tz_top.specs.BatchTexts.{file_groups, AreReadTexts}
+use Rattle.tz_top.specs.BatchAnswer.{BatchAnswers, AnswersOver, IsBatchAnswer}
+use Rattle.tz_top.specs.Due.{IsOutcomeOf, IsBatchDue, IsDueOfAny}
+use Rattle.tz_top.proofs.Groups.{same_groups, too_large_groups, some_group_failed}
+use Rattle.tz_top.proofs.Once.{batch_once, large_once}
+
+-- what is an answer over the texts that were read is due
+answer_due : (batch : BatchCommand) (told : Option FileContents) (failed : List ℕ → Type 0) (text : List ℕ) (sources : Sources) (status : Status) (line : List ℕ) → AreReadTexts told batch text sources → BatchAnswers batch.slots text sources status line → IsBatchDue batch told failed status line
+answer_due batch told failed text sources statuses.Ok line read answers =
+    (read.contents, read.read, record { few_bytes = read.few_bytes; text = text; sources = sources; are = read.are; answers = answers })
+answer_due batch told failed text sources statuses.Script line read answers =
+    (read.contents, read.read, record { few_bytes = read.few_bytes; text = text; sources = sources; are = read.are; answers = answers })
+answer_due batch told failed text sources statuses.Text line read answers =
+    (read.contents, read.read, record { few_bytes = read.few_bytes; text = text; sources = sources; are = read.are; answers = answers })
+answer_due batch told failed text sources status line read answers = absurd answers
+
+pub gives_due : (batch : BatchCommand) (told : Option FileContents) (failed : List ℕ → Type 0) (text : List ℕ) (sources : Sources) (result : Result (Vec ℕ Global) Refusal) → AreReadTexts told batch text sources → Gives (BatchAnswers batch.slots text sources) result → Gives (IsBatchDue batch told failed) result
+gives_due batch told failed text sources (Ok line) read given = answer_due batch told failed text sources statuses.Ok line.items read given
+gives_due batch told failed text sources (Err refusals.Memory) read given = tt
+gives_due batch told failed text sources (Err refusal) read given = answer_due batch told failed text sources (refusal_status refusal) (refusal_line refusal) read given
+
+-- a refusal of the files is due
+pub files_due : (batch : BatchCommand) (told : Option FileContents) (failed : List ℕ → Type 0) (refusal : Refusal) → RefusesGroups told (file_groups batch) failed refusal → Refuses (IsBatchDue batch told failed) refusal
+files_due batch told failed refusals.Memory refused = tt
+files_due batch told failed refusals.Read refused = (refused, refl)
+files_due batch told failed refusals.TooLarge refused = (refused, refl)
+files_due batch told failed refusal refused = absurd refused
+
+-- the line of a refusal is due at its status
+pub refusal_due : (batch : BatchCommand) (told : Option FileContents) (failed : List ℕ → Type 0) (refusal : Refusal) → Refuses (IsBatchDue batch told failed) refusal → IsBatchDue batch told failed (refusal_status refusal) (refusal_line refusal)
+refusal_due batch told failed refusals.Memory refused = refl
+refusal_due batch told failed refusal refused = refused
+
+-- a batch has no usage line
+pub no_usage : (batch : BatchCommand) (told : Option FileContents) (failed : List ℕ → Type 0) (line : List ℕ) → IsBatchDue batch told failed statuses.Usage line → ⊥
+no_usage batch told failed line due = due.2.answers
+
+-- what is due at 0 is the text of an outcome
+pub outcome_due : (batch : BatchCommand) (told : Option FileContents) (failed : List ℕ → Type 0) (line : List ℕ) (had has : Option (List ℕ)) → IsBatchDue batch told failed statuses.Ok line → Appends had has line → (outcome : Outcome) × IsOutcomeOf batch told outcome × Appends had has (outcome_text outcome)
+outcome_due batch told failed line had has due printed =
+    let over = due.2 in (
+      over.answers.0,
+      record {
+        text = over.text;
+        sources = over.sources;
+        read = record { contents = due.0; read = due.1; few_bytes = over.few_bytes; are = over.are };
+        is = over.answers.1;
+      },
+      subst (λ (line : List ℕ). Appends had has line) over.answers.2 printed,
+    )
+
+-- where no read failed, one status is due beside want of memory
+pub one_batch_due : (batch : BatchCommand) (told : Option FileContents) (failed : List ℕ → Type 0) (contents : List (List (List ℕ))) (status due : Status) (line printed : List ℕ) → HoldsGroups told (file_groups batch) contents → IsBatchAnswer batch contents status line → (AnyFailed failed (file_groups batch) → ⊥) → IsBatchDue batch told failed due printed → (due ≡ status) ⊎ (due ≡ statuses.Memory)
+one_batch_due batch told failed contents status statuses.Read line printed are answer fine due =
+    absurd (fine (some_group_failed told (file_groups batch) failed due.0))
+one_batch_due batch told failed contents status statuses.Memory line printed are answer fine due = inr refl
+one_batch_due batch told failed contents status statuses.TooLarge line printed are answer fine due =
+    inl (large_once batch contents status line (too_large_groups told (file_groups batch) contents are due.0) answer)
+one_batch_due batch told failed contents status other line printed are answer fine due =
+    let same = same_groups told (file_groups batch) contents due.0 are due.1 in
+    let here : IsBatchAnswer batch contents other printed = subst (λ (read : List (List (List ℕ))). IsBatchAnswer batch read other printed) same due.2 in
+    inl (batch_once batch contents other status printed line here answer)

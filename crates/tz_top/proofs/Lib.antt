@@ -1,0 +1,4 @@
+pub mod Groups
+pub mod SourcesRead
+pub mod Once
+pub mod Due

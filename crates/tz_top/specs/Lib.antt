@@ -1,0 +1,5 @@
+pub mod Groups
+pub mod BatchTexts
+pub mod BatchAnswer
+pub mod Refusal
+pub mod Due

@@ -1,0 +1,87 @@
+ghost use Rattle.std.specs.Prelude.{◌≡◌, ◌≢◌, ◌⊎◌, ℕ, List};
+ghost use Rattle.std.specs.List.{AllZip, Any};
+ghost use Rattle.tz_io.specs.Counts.{Rose};
+ghost use Rattle.tz_io.specs.Sink.{Appends, AppendsPart};
+ghost use Rattle.tz_batch.specs.OutcomeText.{outcome_text};
+ghost use Rattle.tz_batch.specs.declared.outcome.Outcome.{Outcome};
+ghost use Rattle.tz_cli.specs.Answer.{IsAnswer};
+ghost use Rattle.tz_cli.specs.BatchCommand.{BatchCommand, IsBatchCommand};
+ghost use Rattle.tz_cli.specs.Command.{Command, IsCommand, IsNoCommand, words_of, files_of};
+ghost use Rattle.tz_cli.specs.Outcome.{Holds, Failed};
+ghost use Rattle.tz_cli.specs.declared.status.Status.{Status as DeclaredStatus};
+ghost use Rattle.tz_top.specs.Groups.{HoldsGroups, AnyFailed};
+ghost use Rattle.tz_top.specs.BatchTexts.{file_groups};
+ghost use Rattle.tz_top.specs.BatchAnswer.{IsBatchAnswer};
+ghost use Rattle.tz_top.specs.Due.{IsOutcomeOf, IsDueOfAny};
+
+use crate::batch::run_batch;
+use std::alloc::Global;
+use std::sync::Wait;
+use std::thread::Threads;
+use tz_cli::{BatchLine, Plain, Status, run_plain};
+use tz_io::{Files, Sink};
+use tz_run::Gate;
+
+/// Does a whole command, any that `run_plain` does or `batch`, and answers its status. `batch SCRIPT SLOTS LEAPS TEXT..`
+/// runs the script over a list of so many slots, with the version of the first text in it, and prints the outcome at
+/// `Ok`, else the line of the refusal. At `Write` a part of that was taken. Before each operation of the script the gate
+/// is passed.
+pub fn run<F: Files, S: Sink, G: Gate>(
+    rt: &(impl Threads + Wait + Sync),
+    alloc: Global,
+    words: &[String],
+    files: &mut F,
+    sink: &mut S,
+    gate: &G,
+) -> Status
+    // 0 for `batch`: the sink's bytes are those from before and then the text of an outcome that a run of the script may
+    // give, over the sources of the texts named, by the contents of the files.
+    ensures batch { (batch : BatchCommand) → IsBatchCommand (words_of words.now) batch → result ≡ Status.Ok →
+        (outcome : Outcome) × IsOutcomeOf batch (F.told files.old) outcome
+        × Appends (S.taken sink.old) (S.taken sink.new) (outcome_text outcome) }
+
+    // All that was printed is the line that is due at the status, and the status has its reason: 4 in the script, 3 in
+    // the script's leap text or first text, or in the text of another command, 0, 8, 9, 10, 14 and 15 in the text, 11 in
+    // the size of the files, 5 in a fault of the next file that was counted in this call.
+    ensures whole { result ≢ Status.Write →
+        (line : List ℕ) × IsDueOfAny (words_of words.now) (F.told files.old) (Failed (F.faults files.old) (F.faults files.new)) result line
+        × Appends (S.taken sink.old) (S.taken sink.new) line }
+
+    // 6: a fault of the sink or a stall was counted in this call, and a part of a line that is due was printed.
+    ensures write { result ≡ Status.Write → Rose (S.faults sink.old) (S.faults sink.new) ⊎ Rose (S.stalls sink.old) (S.stalls sink.new) }
+    ensures part { result ≡ Status.Write →
+        (status : DeclaredStatus) × (line : List ℕ)
+        × IsDueOfAny (words_of words.now) (F.told files.old) (Failed (F.faults files.old) (F.faults files.new)) status line
+        × AppendsPart (S.taken sink.old) (S.taken sink.new) line }
+
+    // 2: exactly where the words match no form, and want of memory never hides it: only the sink may.
+    ensures usage { result ≡ Status.Usage → IsNoCommand (words_of words.now) }
+    ensures no_command { IsNoCommand (words_of words.now) → (result ≡ Status.Usage) ⊎ (result ≡ Status.Write) }
+
+    // Where no fault and no stall was counted, an answer over the contents has its status, but for want of memory: that
+    // of `batch`, and that of any other command.
+    ensures exact_batch { (batch : BatchCommand) (contents : List (List (List ℕ))) (status : DeclaredStatus) (line : List ℕ) →
+        IsBatchCommand (words_of words.now) batch → HoldsGroups (F.told files.old) (file_groups batch) contents →
+        IsBatchAnswer batch contents status line →
+        ¬ (AnyFailed (Failed (F.faults files.old) (F.faults files.new)) (file_groups batch)) →
+        ¬ (Rose (S.faults sink.old) (S.faults sink.new)) → ¬ (Rose (S.stalls sink.old) (S.stalls sink.new)) →
+        (result ≡ status) ⊎ (result ≡ Status.Memory) }
+    ensures exact { (command : Command) (contents : List (List ℕ)) (status : DeclaredStatus) (line : List ℕ) →
+        IsCommand (words_of words.now) command → AllZip (Holds (F.told files.old)) (files_of command) contents →
+        IsAnswer command contents status line →
+        ¬ (Any (Failed (F.faults files.old) (F.faults files.new)) (files_of command)) →
+        ¬ (Rose (S.faults sink.old) (S.faults sink.new)) → ¬ (Rose (S.stalls sink.old) (S.stalls sink.new)) →
+        (result ≡ status) ⊎ (result ≡ Status.Memory) }
+
+    // The files stay as they were.
+    ensures told { F.told files.new ≡ F.told files.old }
+{
+    match run_plain(rt, alloc, words, files, sink) {
+        Plain::Done(status) => status,
+        Plain::Shared => match BatchLine::new(words) {
+            Some(line) => run_batch(rt, alloc, line, files, sink, gate),
+            // `run_plain` leaves no other words.
+            None => unreachable!(),
+        },
+    }
+}
