@@ -12,7 +12,7 @@ ghost use Rattle.tz_rules.specs.NamePlace.{name_place};
 ghost use Rattle.tz_lines.specs.Following.{are_before};
 
 use std::alloc::Global;
-use tz_records::SetName;
+use tz_records::GivenName;
 use tz_types::{Items, NoMemory, Rule, RuleSet};
 
 /// The place of the set of that name, or else the place where it would stand.
@@ -35,7 +35,7 @@ fn push_rule(set: &mut RuleSet, rule: Rule) -> Result<(), NoMemory>
 }
 
 /// A set of one rule.
-fn set_of(alloc: Global, name: SetName<'_>, rule: Rule) -> Result<RuleSet, NoMemory>
+fn set_of(alloc: Global, name: GivenName<'_>, rule: Rule) -> Result<RuleSet, NoMemory>
     ensures rules { IfOk result (λ (set : DeclaredSet). set.rules ≡ rule ∷ []) }
     ensures name { IfOk result (λ (set : DeclaredSet). set.name ≡ name.entry.bytes.now) }
 {
@@ -51,7 +51,7 @@ fn set_of(alloc: Global, name: SetName<'_>, rule: Rule) -> Result<RuleSet, NoMem
 pub fn add_rule(
     alloc: Global,
     sets: &mut Vec<RuleSet>,
-    name: SetName<'_>,
+    name: GivenName<'_>,
     rule: Rule,
 ) -> Result<(), NoMemory>
     requires ascending { IsTrue (ascends name_before (set_names sets.old.items)) }

@@ -8,7 +8,7 @@ ghost use Rattle.tz_types.specs.Calendar.{has_day, has_day_through};
 ghost use Rattle.tz_specs.specs.Value.{is_exactly, is_dash, rule_year_of, last_year_named, years_of, month_named, rule_day_of, until_day_of, kind_of, time_of, is_shift, stdoff_of, is_daylight, save_of, is_bad_name, is_long_name, starts_amount, letters_of};
 
 use tz_text::{amount, named_among, on, year};
-use tz_types::{AtKind, Label, Letters, Month, On, has_day, has_day_through};
+use tz_types::{AtKind, Letters, Month, On, has_day, has_day_through};
 
 const MONTHS: [&[u8]; 12] = [
     b"January",
@@ -224,18 +224,6 @@ pub fn is_beyond(name: &[u8], too_many: bool) -> bool
     ensures { result ≡ (is_long_name name.now || too_many) }
 {
     is_long_name(name) || too_many
-}
-
-/// The name, which is neither bad nor long.
-pub fn label(field: &[u8]) -> Label
-    requires good { is_bad_name field.now ≡ false }
-    requires short { is_long_name field.now ≡ false }
-    ensures { result ≡ field.now }
-{
-    let Ok(label) = Label::new(field) else {
-        unreachable!()
-    };
-    label
 }
 
 /// Whether the field starts as an amount does, and so is no rule's name.
