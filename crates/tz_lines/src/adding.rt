@@ -25,6 +25,7 @@ impl Gathered {
     {
         Gathered {
             sets: Items::new(alloc),
+            last_set: 0,
             names: SetNames::new(alloc),
             zones: Items::new(alloc),
             links: Items::new(alloc),
@@ -39,7 +40,7 @@ impl Gathered {
     {
         // `Items` lends none of its elements to be changed, so the whole list is taken out and put back.
         let mut sets = mem::replace(&mut self.sets, Items::new(alloc)).into_vec();
-        add_rule(alloc, &mut sets, name, rule)?;
+        add_rule(alloc, &mut sets, &mut self.last_set, name, rule)?;
         self.sets = Items::from_vec(sets);
         Ok(())
     }
