@@ -1,6 +1,7 @@
 -- How a text is cut into lines at its first newline.
-use Rattle.std.proofs.Common.{◌≡◌, ℕ, zero, suc, ◌<◌, true, false, List, [], ◌∷◌, length, take, drop, slice_index, eqb, refl, ⊎_elim, arith}
-use Rattle.std.proofs.lemmas.Bool.{cases_Bool}
+use Rattle.std.proofs.Common.{◌≡◌, ℕ, zero, suc, ◌<◌, ◌==◌, Bool, true, false, List, [], ◌∷◌, length, take, drop, slice_index, eqb, refl, ⊎_elim, arith}
+use Rattle.std.specs.List.{list_any}
+use Rattle.std.proofs.lemmas.Bool.{cases_Bool, or_parts}
 use Rattle.std.proofs.lemmas.Bool.Decides.{nat_tests}
 use Rattle.std.proofs.lemmas.List.{drop_all}
 use Rattle.memchr.specs.Find.{Nowhere, Passes, is_byte}
@@ -50,3 +51,25 @@ nothing_left (byte ∷ text) h = absurd (omega (arith, some_left (suc (length te
   where
     some_left : (n : ℕ) → true ≡ eqb n 0 → n ≡ 0
     some_left n h = grind (arith, nat_tests)
+
+-- what no byte passes, none of some of them does
+
+pub none_taken : (test : ℕ → Bool) (count : ℕ) (bytes : List ℕ) → list_any test bytes ≡ false → list_any test (take count bytes) ≡ false
+none_taken test zero bytes none = refl
+none_taken test (suc count) [] none = refl
+none_taken test (suc count) (byte ∷ bytes) none =
+    let both = or_parts (test byte) (list_any test bytes) none in
+    rw (both.0) (none_taken test count bytes both.1)
+
+pub none_dropped : (test : ℕ → Bool) (count : ℕ) (bytes : List ℕ) → list_any test bytes ≡ false → list_any test (drop count bytes) ≡ false
+none_dropped test zero bytes none = none
+none_dropped test (suc count) [] none = refl
+none_dropped test (suc count) (byte ∷ bytes) none =
+    none_dropped test count bytes (or_parts (test byte) (list_any test bytes) none).1
+
+-- a text in which no place has a NUL byte
+pub none_nul : (text : List ℕ) → Nowhere (Passes (is_byte 0) text) 0 (length text) → list_any (λ byte. byte == 0) text ≡ false
+none_nul [] none = refl
+none_nul (byte ∷ text) none =
+    let first : eqb byte 0 ≡ false = ⊎_elim (λ (e : eqb byte 0 ≡ true). absurd (none 0 (omega arith) (omega arith) e)) (λ (e : eqb byte 0 ≡ false). e) (cases_Bool (eqb byte 0)) in
+    rw first (none_nul text (λ k low high passes. none (suc k) (omega arith) (omega arith) passes))

@@ -1,7 +1,8 @@
 -- Rule sets in the order of their names, with one more rule.
 use Rattle.std.proofs.Common.{◌≡◌, ℕ, zero, suc, ◌<◌, ◌≤◌, true, false, nat_le, nat_lt, IsTrue, List, [], ◌∷◌, ◌++◌, length, map, get_or, set, Some, Result, Ok, Err, refl, sym, ap, ◌∙◌, arith}
 use Rattle.std.proofs.lemmas.Bool.{and_parts, and_from}
-use Rattle.std.specs.List.{find, insert, list_all}
+use Rattle.std.specs.List.{find, insert, list_all, HoldsAt}
+use Rattle.std.proofs.lemmas.Cmp.{nat_list_cmp_total, tied_itself}
 use Rattle.std.specs.Result.{OnOk, OnErr}
 use Rattle.std.proofs.lemmas.Bool.Decides.{nat_tests}
 use Rattle.std.proofs.lemmas.List.{length-map, length-append, get_or-map, map-set, map-append, set-get_or}
@@ -14,7 +15,7 @@ use Rattle.tz_specs.specs.Written.{WrittenRule, WrittenSet, written_rule, writte
 use Rattle.tz_specs.specs.Contents.{is_set_named, with_rule, is_full_set}
 use Rattle.tz_rules.specs.NamePlace.{name_place}
 use Rattle.tz_lines.specs.Following.{are_before}
-use Rattle.tz_rules.proofs.NameOrder.{Ascend}
+use Rattle.tz_rules.proofs.NameOrder.{Ascend, searched}
 use Rattle.tz_rules.proofs.NamesFound.{found-find, found-named, missing-find, place_empty, same_name, later_name, earlier_name, stands, ascends_inserted, later_place, ok_later, later_gap, err_later}
 
 map_insert : {A B : Type 0} (view : A → B) (xs : List A) (place : ℕ) (x : A) → map view (insert xs place x) ≡ insert (map view xs) place (view x)
@@ -169,3 +170,14 @@ pub room_for_set : (sets : List RuleSet) (name : List ℕ) (place : ℕ) (new : 
 room_for_set sets name place new up e within room =
     let few = below most_sets (length sets) (full_new sets name place up e ∙ room) in
     rw (length-insert sets place new within) (omega arith)
+
+-- the set at a place, whatever stands for a place that is none
+pub holds_there : (P : RuleSet → Type 0) (sets : List RuleSet) (place : ℕ) (set : RuleSet) → place < length sets → set ≡ get_or sets place set → P set → HoldsAt P sets place
+holds_there P [] place set within is p = absurd (omega arith)
+holds_there P (it ∷ sets) zero set within is p = λ d. rw is at p
+holds_there P (it ∷ sets) (suc place) set within is p = holds_there P sets place set (omega arith) is p
+
+-- a name has no other place than the one where it is found
+pub likely_place : (sets : List RuleSet) (name : List ℕ) (place : ℕ) → IsTrue (ascends name_before (set_names sets)) → place < length sets → HoldsAt (λ (set : RuleSet). set.name ≡ name) sets place → Ok place ≡ name_place name (set_names sets)
+likely_place sets name place up within there =
+    searched (λ (set : RuleSet). set.name) name sets (Ok place) up within (λ d. rw (there d) (tied_itself nat_list_cmp_total name))

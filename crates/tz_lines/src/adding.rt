@@ -1,6 +1,6 @@
 //! What the lines of a text have given so far, with one more record.
 ghost use Rattle.std.specs.Prelude.{◌≡◌, ◌+◌, ◌<◌, ◌≤◌, ◌^◌, false, length, IsTrue, IfOk, OnOk};
-ghost use Rattle.tz_specs.specs.Written.{written_rule, written_line, RuleRecord, ZoneRecord, Continuation};
+ghost use Rattle.tz_specs.specs.Written.{written_rule, written_line, RuleRecord, ZoneRecord, Continuation, LinkRecord};
 ghost use Rattle.tz_specs.specs.Contents.{no_contents, at_end_of_file, with_record};
 ghost use Rattle.tz_records.specs.Entry.{written_entry, written_entry_line};
 ghost use Rattle.tz_rules.specs.Continued.{is_named_by};
@@ -14,8 +14,8 @@ use crate::set_names::SetNames;
 use crate::zone_line::zone_line;
 use std::alloc::Global;
 use std::mem;
-use tz_records::{Entry, EntryLine, SetName};
-use tz_types::{Items, Label, NoMemory, Rule, ZoneLine};
+use tz_records::{Entry, EntryLine, GivenName};
+use tz_types::{Items, Link, NoMemory, Rule, ZoneLine};
 
 impl Gathered {
     /// Before any line.
@@ -25,6 +25,7 @@ impl Gathered {
     {
         Gathered {
             sets: Items::new(alloc),
+            last_set: 0,
             names: SetNames::new(alloc),
             zones: Items::new(alloc),
             links: Items::new(alloc),
@@ -32,14 +33,14 @@ impl Gathered {
         }
     }
 
-    fn add_rule(&mut self, alloc: Global, name: SetName<'_>, rule: Rule) -> Result<(), NoMemory>
+    fn add_rule(&mut self, alloc: Global, name: GivenName<'_>, rule: Rule) -> Result<(), NoMemory>
         requires { IsTrue (may_follow (contents_gathered self.old) (RuleRecord name.bytes.now (written_rule rule))) }
         ensures contents { OnOk result (contents_gathered self.new ≡ with_record (RuleRecord name.entry.bytes.now (written_rule rule)) (contents_gathered self.old)) }
         ensures names { length self.new.names.labels.items ≡ length self.old.names.labels.items }
     {
         // `Items` lends none of its elements to be changed, so the whole list is taken out and put back.
         let mut sets = mem::replace(&mut self.sets, Items::new(alloc)).into_vec();
-        add_rule(alloc, &mut sets, name, rule)?;
+        add_rule(alloc, &mut sets, &mut self.last_set, name, rule)?;
         self.sets = Items::from_vec(sets);
         Ok(())
     }
@@ -58,12 +59,12 @@ impl Gathered {
     fn begin_zone(
         &mut self,
         alloc: Global,
-        name: Label,
+        name: GivenName<'_>,
         entry: EntryLine<'_>,
     ) -> Result<(), NoMemory>
         requires room { length self.old.names.labels.items < 2 ^ 32 }
-        requires may { IsTrue (may_follow (contents_gathered self.old) (ZoneRecord name (written_entry_line entry))) }
-        ensures contents { OnOk result (contents_gathered self.new ≡ with_record (ZoneRecord name (written_entry_line entry.entry)) (contents_gathered self.old)) }
+        requires may { IsTrue (may_follow (contents_gathered self.old) (ZoneRecord name.bytes.now (written_entry_line entry))) }
+        ensures contents { OnOk result (contents_gathered self.new ≡ with_record (ZoneRecord name.entry.bytes.now (written_entry_line entry.entry)) (contents_gathered self.old)) }
         ensures names { length self.new.names.labels.items ≤ length self.old.names.labels.items + 1 }
     {
         let line = self.zone_line(entry)?;
@@ -83,6 +84,25 @@ impl Gathered {
         continue_last(&mut zones, line)?;
         self.zones = Items::from_vec(zones);
         Ok(())
+    }
+
+    /// Adds a link. The place of its zone is 0 until all lines are there.
+    fn add_link(
+        &mut self,
+        target: GivenName<'_>,
+        name: GivenName<'_>,
+        line: u32,
+    ) -> Result<(), NoMemory>
+        requires { IsTrue (may_follow (contents_gathered self.old) (LinkRecord (record { target = target.bytes.now; name = name.bytes.now; line = line }))) }
+        ensures contents { OnOk result (contents_gathered self.new ≡ with_record (LinkRecord (record { target = target.entry.bytes.now; name = name.entry.bytes.now; line = line })) (contents_gathered self.old)) }
+        ensures names { length self.new.names.labels.items ≡ length self.old.names.labels.items }
+    {
+        self.links.push(Link {
+            name: name.label(),
+            target: target.label(),
+            zone: 0,
+            line,
+        })
     }
 
     /// Ends a file: the next one continues no zone of it.
@@ -105,7 +125,7 @@ impl Gathered {
             Entry::Rule { name, rule } => self.add_rule(alloc, name, rule),
             Entry::Zone { name, line } => self.begin_zone(alloc, name, line),
             Entry::Continuation(line) => self.continue_zone(alloc, line),
-            Entry::Link(link) => self.links.push(link),
+            Entry::Link { target, name, line } => self.add_link(target, name, line),
         }
     }
 }

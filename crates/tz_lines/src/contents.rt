@@ -12,6 +12,8 @@ use tz_types::{Items, Link, RuleSet, Zone};
 #[derive(Debug, Drop)]
 pub struct Gathered {
     pub sets: Items<RuleSet>,
+    /// Where the set of the rule that came last stands, unless sets were put in before it since. Nothing rests on it.
+    pub last_set: usize,
     pub names: SetNames,
     pub zones: Items<Zone>,
     pub links: Items<Link>,

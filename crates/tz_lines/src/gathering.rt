@@ -1,4 +1,5 @@
-ghost use Rattle.std.specs.Prelude.{◌≡◌, ◌+◌, ◌<◌, ◌≤◌, ◌∷◌, ℕ, false, List, Ok, IfOk, IfErr, OnOk, length, IsTrue};
+ghost use Rattle.std.specs.Prelude.{◌≡◌, ◌+◌, ◌<◌, ◌≤◌, ◌==◌, ◌∷◌, ℕ, false, List, Ok, IfOk, IfErr, OnOk, length, IsTrue};
+ghost use Rattle.std.specs.List.{list_any};
 ghost use Rattle.tz_types.specs.Limit.{most_bytes};
 ghost use Rattle.tz_types.specs.Source.{bytes_together};
 ghost use Rattle.tz_specs.specs.Line.{lines_of};
@@ -8,21 +9,23 @@ ghost use Rattle.tz_lines.specs.Following.{are_before};
 ghost use Rattle.tz_lines.specs.Gathering.{MeansLineFault};
 
 use crate::contents::Gathered;
-use crate::cutting::next_line;
+use crate::cutting::{may_have_nul, next_line};
 use crate::error::LineError;
 use crate::line::read_line;
 use std::alloc::Global;
 use tz_text::Joined;
 use tz_types::{LineFault, Text};
 
-/// Reads one more line of a text.
+/// Reads one more line of a text. `nuls` says whether the text may have a NUL byte.
 fn take_line(
     alloc: Global,
     gathered: &mut Gathered,
     joined: &mut Joined,
     line: &[u8],
+    nuls: bool,
     number: u32,
 ) -> Result<(), LineError>
+    requires nuls { nuls ≡ false → list_any (λ byte. byte == 0) line.now ≡ false }
     requires before { IsTrue (are_before number (contents_gathered gathered.old).sets) }
     requires names { length gathered.old.names.labels.items < number }
     ensures ok { OnOk result ((lines : List (List ℕ)) →
@@ -33,7 +36,7 @@ fn take_line(
     ensures err { IfErr result (λ e. (lines : List (List ℕ)) →
         MeansLineFault e (contents_after (contents_gathered gathered.old) number (line.now ∷ lines))) }
 {
-    match read_line(line, joined, number, gathered) {
+    match read_line(line, joined, nuls, number, gathered) {
         Ok(None) => Ok(()),
         Ok(Some(entry)) => {
             gathered.add(alloc, entry)?;
@@ -65,11 +68,12 @@ fn take_lines(
     ensures names { IfOk result (λ next. length gathered.new.names.labels.items < next) }
     ensures err { IfErr result (λ e. MeansLineFault e (contents_after (contents_gathered gathered.old) number (lines_of text.now))) }
 {
+    let nuls = may_have_nul(text);
     let mut next = number;
     let mut rest = text;
     while !rest.is_empty() {
         let (line, later) = next_line(rest);
-        take_line(alloc, gathered, joined, line, next)?;
+        take_line(alloc, gathered, joined, line, nuls, next)?;
         next += 1;
         rest = later;
     }

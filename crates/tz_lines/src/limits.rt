@@ -31,7 +31,7 @@ impl Gathered {
     pub fn exceeds_rules(&self, name: &[u8]) -> bool
         ensures { result ≡ exceeds_rules name.now (contents_gathered self.now) }
     {
-        match set_place(self.sets.as_slice(), name) {
+        match set_place(self.sets.as_slice(), self.last_set, name) {
             Ok(place) => self.sets.as_slice()[place].rules.len() >= 512,
             Err(_) => self.sets.len() >= 1_024,
         }

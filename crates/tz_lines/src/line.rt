@@ -1,5 +1,6 @@
 //! One line of a zone text.
-ghost use Rattle.std.specs.Prelude.{◌≡◌, ℕ, ◌<◌, ◌≤◌, List, Ok, Err, option_map, nat_lt, IfOk, IfErr, length};
+ghost use Rattle.std.specs.Prelude.{◌≡◌, ℕ, ◌==◌, ◌<◌, ◌≤◌, false, List, Ok, Err, option_map, nat_lt, IfOk, IfErr, length};
+ghost use Rattle.std.specs.List.{list_any};
 ghost use Rattle.tz_text.specs.Kept.{kept_of, most_kept};
 ghost use Rattle.tz_specs.specs.Contents.{field_causes, record_of_fields, line_says};
 ghost use Rattle.tz_records.specs.Entry.{written_entry};
@@ -58,23 +59,34 @@ fn said<'a>(
     }
 }
 
+/// Whether the line has a NUL byte. Only a line of a text that may have one is looked through.
+fn has_nul_byte(line: &[u8], nuls: bool) -> bool
+    requires { nuls ≡ false → list_any (λ byte. byte == 0) line.now ≡ false }
+    ensures { result ≡ list_any (λ byte. byte == 0) line.now }
+{
+    nuls && has_nul(line)
+}
+
 /// What a line says, by its number and by what the lines before it gave: an entry, nothing where it is blank, or its
 /// least cause.
 ///
-/// `joined` keeps the bytes of fields that join pieces; what it had is gone.
+/// `joined` keeps the bytes of fields that join pieces; what it had is gone. `nuls` says whether the text of the line may have
+/// a NUL byte.
 pub fn read_line<'a>(
     line: &'a [u8],
     joined: &'a mut Joined,
+    nuls: bool,
     number: u32,
     gathered: &Gathered,
 ) -> Result<Option<Entry<'a>>, Cause>
+    requires { nuls ≡ false → list_any (λ byte. byte == 0) line.now ≡ false }
     ensures ok { IfOk result (λ said. line_says (contents_gathered gathered.now) number line.now ≡ Ok (option_map written_entry said)) }
     ensures err { IfErr result (λ cause. line_says (contents_gathered gathered.now) number line.now ≡ Err cause) }
 {
     if line.len() + 1 > 2_048 {
         return Err(Cause::LongLine);
     }
-    if has_nul(line) {
+    if has_nul_byte(line, nuls) {
         return Err(Cause::Nul);
     }
     let Ok(fields) = Fields::cut(line, joined) else {

@@ -1,6 +1,6 @@
 //! Rule sets in the order of their names.
 ghost use Rattle.std.specs.Prelude.{◌≡◌, ◌∷◌, ◌++◌, [], ◌<◌, ◌≤◌, false, length, map, find, nat_lt, IsTrue, IfOk, OnOk};
-ghost use Rattle.std.specs.List.{list_all};
+ghost use Rattle.std.specs.List.{list_all, HoldsAt};
 ghost use Rattle.std.specs.List.Sorted.{IsSearchInRange};
 ghost use Rattle.tz_types.specs.Order.{ascends, name_before};
 ghost use Rattle.tz_types.specs.Limit.{most_rules, most_sets};
@@ -12,16 +12,40 @@ ghost use Rattle.tz_rules.specs.NamePlace.{name_place};
 ghost use Rattle.tz_lines.specs.Following.{are_before};
 
 use std::alloc::Global;
-use tz_records::SetName;
+use tz_records::GivenName;
 use tz_types::{Items, NoMemory, Rule, RuleSet};
 
+/// Whether the set at a place has that name.
+fn stands_at(sets: &[RuleSet], place: usize, name: &[u8]) -> bool
+    ensures there { IsTrue result → place < length sets.now }
+    ensures named { IsTrue result → HoldsAt (λ (set : DeclaredSet). set.name ≡ name.now) sets.now place }
+{
+    match sets.get(place) {
+        Some(set) => set.name.as_bytes() == name,
+        None => false,
+    }
+}
+
 /// The place of the set of that name, or else the place where it would stand.
-pub fn set_place(sets: &[RuleSet], name: &[u8]) -> Result<usize, usize>
+fn searched_place(sets: &[RuleSet], name: &[u8]) -> Result<usize, usize>
     requires { IsTrue (ascends name_before (set_names sets.now)) }
     ensures place { result ≡ name_place name.now (set_names sets.now) }
     ensures bound { IsSearchInRange result (length sets.now) }
 {
     sets.binary_search_by(|set| set.name.as_bytes().cmp(name))
+}
+
+/// The same, which takes no search where the set stands at the place that is likely: a rule mostly has the name of the rule
+/// before it.
+pub fn set_place(sets: &[RuleSet], likely: usize, name: &[u8]) -> Result<usize, usize>
+    requires { IsTrue (ascends name_before (set_names sets.now)) }
+    ensures place { result ≡ name_place name.now (set_names sets.now) }
+    ensures bound { IsSearchInRange result (length sets.now) }
+{
+    if stands_at(sets, likely, name) {
+        return Ok(likely);
+    }
+    searched_place(sets, name)
 }
 
 /// Adds a rule that stands behind those of its set.
@@ -35,7 +59,7 @@ fn push_rule(set: &mut RuleSet, rule: Rule) -> Result<(), NoMemory>
 }
 
 /// A set of one rule.
-fn set_of(alloc: Global, name: SetName<'_>, rule: Rule) -> Result<RuleSet, NoMemory>
+fn set_of(alloc: Global, name: GivenName<'_>, rule: Rule) -> Result<RuleSet, NoMemory>
     ensures rules { IfOk result (λ (set : DeclaredSet). set.rules ≡ rule ∷ []) }
     ensures name { IfOk result (λ (set : DeclaredSet). set.name ≡ name.entry.bytes.now) }
 {
@@ -47,11 +71,13 @@ fn set_of(alloc: Global, name: SetName<'_>, rule: Rule) -> Result<RuleSet, NoMem
     })
 }
 
-/// Adds a rule behind those of its name, or as the first of them.
+/// Adds a rule behind those of its name, or as the first of them. Its set is looked for first at the place that is likely, which
+/// is the set's place from then on.
 pub fn add_rule(
     alloc: Global,
     sets: &mut Vec<RuleSet>,
-    name: SetName<'_>,
+    likely: &mut usize,
+    name: GivenName<'_>,
     rule: Rule,
 ) -> Result<(), NoMemory>
     requires ascending { IsTrue (ascends name_before (set_names sets.old.items)) }
@@ -62,9 +88,13 @@ pub fn add_rule(
     ensures ascending { OnOk result (IsTrue (ascends name_before (set_names sets.new.items))) }
     ensures few { OnOk result (length sets.new.items ≤ most_sets) }
 {
-    match set_place(sets.as_slice(), name.as_bytes()) {
-        Ok(place) => push_rule(&mut sets[place], rule),
+    match set_place(sets.as_slice(), *likely, name.as_bytes()) {
+        Ok(place) => {
+            *likely = place;
+            push_rule(&mut sets[place], rule)
+        }
         Err(place) => {
+            *likely = place;
             sets.insert(place, set_of(alloc, name, rule)?)?;
             Ok(())
         }

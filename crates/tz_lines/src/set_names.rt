@@ -8,7 +8,7 @@ ghost use Rattle.tz_lines.specs.SetNames.{with_set_name, AreBegun};
 
 use std::alloc::Global;
 use std::collections::BTreeMap;
-use tz_records::SetName;
+use tz_records::GivenName;
 use tz_types::{Items, Label, NoMemory};
 
 /// Names, each once, in the order in which they came.
@@ -62,7 +62,7 @@ impl SetNames {
     }
 
     /// The place of a name by a search. It is added where it is new.
-    fn search(&mut self, name: SetName<'_>) -> Result<u32, NoMemory>
+    fn search(&mut self, name: GivenName<'_>) -> Result<u32, NoMemory>
         requires { length self.old.labels.items < 2 ^ 32 }
         ensures place { IfOk result (λ place. slice_get self.new.labels.items place ≡ Some name.entry.bytes.now) }
         ensures labels { OnOk result (self.new.labels.items ≡ with_set_name name.entry.bytes.now self.old.labels.items) }
@@ -77,7 +77,7 @@ impl SetNames {
     }
 
     /// The place of a name, which is added where it is new.
-    pub fn place(&mut self, name: SetName<'_>) -> Result<u32, NoMemory>
+    pub fn place(&mut self, name: GivenName<'_>) -> Result<u32, NoMemory>
         requires { length self.old.labels.items < 2 ^ 32 }
         ensures place { IfOk result (λ place. slice_get self.new.labels.items place ≡ Some name.entry.bytes.now) }
         ensures labels { OnOk result (self.new.labels.items ≡ with_set_name name.entry.bytes.now self.old.labels.items) }

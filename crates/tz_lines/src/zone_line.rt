@@ -40,7 +40,7 @@ pub fn zone_line(names: &mut SetNames, entry: EntryLine<'_>) -> Result<ZoneLine,
     Ok(ZoneLine {
         stdoff: entry.stdoff,
         rules,
-        format: entry.format,
+        format: entry.format.format(),
         until: entry.until,
         line: entry.line,
     })

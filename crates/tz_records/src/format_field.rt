@@ -11,7 +11,7 @@ use crate::values::is_bad_name;
 use tz_types::{Abbrev, Format};
 
 /// A format by the parts of its field, which may be longer than a format is.
-#[derive(Clone, Copy)]
+#[derive(Clone, Copy, Debug)]
 pub enum FormatField<'a> {
     Text(&'a [u8]),
     Letters {

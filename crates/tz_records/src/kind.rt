@@ -4,9 +4,9 @@ ghost use Rattle.tz_text.specs.Kept.{kept_of};
 ghost use Rattle.tz_specs.specs.Record.{kind_of_record, has_count};
 ghost use Rattle.tz_records.specs.Kind.{kind_told, kind_named};
 
-use tz_text::{Fields, named};
+use tz_text::{Fields, named_among};
 
-const KEYWORDS: &[u8] = b"Rule Zone Link";
+const KEYWORDS: [&[u8]; 3] = [b"Rule", b"Zone", b"Link"];
 
 /// What a line that isn't blank is.
 #[derive(Clone, Copy)]
@@ -19,10 +19,11 @@ pub enum Kind {
 
 impl Kind {
     /// The kind that a keyword names.
+    #[tactic(auto, unfolding(tz_specs::specs::Word::named_entry))]
     fn named(word: &[u8]) -> Option<Kind>
         ensures { option_map kind_told result ≡ kind_named word.now }
     {
-        match named(word, KEYWORDS)? {
+        match named_among(word, &KEYWORDS)? {
             0 => Some(Kind::Rule),
             1 => Some(Kind::Zone),
             2 => Some(Kind::Link),

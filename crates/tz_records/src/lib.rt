@@ -8,6 +8,7 @@
 
 mod entry;
 mod format_field;
+mod given_name;
 mod kind;
 mod leap_line;
 mod leap_record;
@@ -16,17 +17,17 @@ mod link_line;
 mod recurrence;
 mod rule_line;
 mod rules_field;
-mod set_name;
 mod values;
 mod zone_line;
 mod zone_record;
 
 pub use entry::{Entry, EntryLine, EntryRules};
+pub use format_field::FormatField;
+pub use given_name::GivenName;
 pub use kind::Kind;
 pub use leap_line::read_leap_line;
 pub use leap_record::LeapRecord;
 pub use link_line::link_entry;
 pub use rule_line::rule_entry;
-pub use set_name::SetName;
 pub use values::has_nul;
 pub use zone_record::{continuation_entry, zone_entry};

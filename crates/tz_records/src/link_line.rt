@@ -5,9 +5,10 @@ ghost use Rattle.tz_records.specs.Entry.{written_entry};
 ghost use Rattle.tz_records.specs.Tells.{Tells};
 
 use crate::entry::Entry;
-use crate::values::{is_bad_name, is_beyond, is_long_name, label};
+use crate::given_name::GivenName;
+use crate::values::{is_bad_name, is_beyond, is_long_name};
 use tz_text::Fields;
-use tz_types::{Cause, Link};
+use tz_types::Cause;
 
 /// The link of three fields, which may be one too many, or their least cause.
 pub fn link_entry<'a>(fields: &Fields<'a>, number: u32, too_many: bool) -> Result<Entry<'a>, Cause>
@@ -22,10 +23,9 @@ pub fn link_entry<'a>(fields: &Fields<'a>, number: u32, too_many: bool) -> Resul
     if is_long_name(target) || is_beyond(name, too_many) {
         return Err(Cause::Limit);
     }
-    Ok(Entry::Link(Link {
-        name: label(name),
-        target: label(target),
-        zone: 0,
+    Ok(Entry::Link {
+        target: GivenName::of_field(target),
+        name: GivenName::of_field(name),
         line: number,
-    }))
+    })
 }

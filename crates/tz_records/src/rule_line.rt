@@ -8,8 +8,8 @@ ghost use Rattle.tz_records.specs.RuleFields.{rule_with, written_recurrence};
 ghost use Rattle.tz_records.specs.Tells.{Tells};
 
 use crate::entry::Entry;
+use crate::given_name::GivenName;
 use crate::recurrence::Recurrence;
-use crate::set_name::SetName;
 use crate::values::{
     are_visible, is_bad_name, is_beyond, letter_bytes, letters, save, starts_amount,
 };
@@ -60,7 +60,7 @@ pub fn rule_entry<'a>(fields: &Fields<'a>, number: u32, too_many: bool) -> Resul
         return Err(Cause::Limit);
     }
     Ok(Entry::Rule {
-        name: SetName::of_field(name),
+        name: GivenName::of_field(name),
         rule: rule(recurrence, save, daylight, letters(bytes), number),
     })
 }

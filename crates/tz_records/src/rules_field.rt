@@ -6,7 +6,7 @@ ghost use Rattle.tz_records.specs.FixedSave.{is_fixed_save};
 ghost use Rattle.tz_records.specs.RulesField.{rules_told, has_shift, is_badly_named, is_long_named};
 
 use crate::entry::EntryRules;
-use crate::set_name::SetName;
+use crate::given_name::GivenName;
 use crate::values::{is_bad_name, is_dash, is_long_name, save, starts_amount};
 
 /// What the save of a line follows, where a name may be bad or too long.
@@ -66,7 +66,7 @@ impl<'a> RulesField<'a> {
         match self {
             RulesField::Plain => EntryRules::Plain,
             RulesField::Fixed { save, daylight } => EntryRules::Fixed { save, daylight },
-            RulesField::Named(name) => EntryRules::Named(SetName::of_field(name)),
+            RulesField::Named(name) => EntryRules::Named(GivenName::of_field(name)),
         }
     }
 }

@@ -7,13 +7,25 @@ ghost use Rattle.tz_types.specs.Amount.{IsShift, IsTimeOfDay};
 ghost use Rattle.tz_types.specs.Calendar.{has_day, has_day_through};
 ghost use Rattle.tz_specs.specs.Value.{is_exactly, is_dash, rule_year_of, last_year_named, years_of, month_named, rule_day_of, until_day_of, kind_of, time_of, is_shift, stdoff_of, is_daylight, save_of, is_bad_name, is_long_name, starts_amount, letters_of};
 
-use tz_text::{amount, named, on, year};
-use tz_types::{AtKind, Label, Letters, Month, On, has_day, has_day_through};
+use tz_text::{amount, named_among, on, year};
+use tz_types::{AtKind, Letters, Month, On, has_day, has_day_through};
 
-const MONTHS: &[u8] =
-    b"January February March April May June July August September October November December";
+const MONTHS: [&[u8]; 12] = [
+    b"January",
+    b"February",
+    b"March",
+    b"April",
+    b"May",
+    b"June",
+    b"July",
+    b"August",
+    b"September",
+    b"October",
+    b"November",
+    b"December",
+];
 
-const LAST_YEARS: &[u8] = b"maximum minimum only";
+const LAST_YEARS: [&[u8]; 3] = [b"maximum", b"minimum", b"only"];
 
 /// Whether the field has exactly these bytes.
 pub fn is_exactly(field: &[u8], bytes: &[u8]) -> bool
@@ -43,12 +55,13 @@ pub fn rule_year(field: &[u8]) -> Option<i32>
 }
 
 /// The last year that a word names: the one after all others, or the first year.
+#[tactic(auto, unfolding(tz_specs::specs::Word::named_entry))]
 fn last_year(first: i32, word: &[u8]) -> Option<i32>
     requires { IsWrittenYear first }
     ensures value { result ≡ last_year_named first word.now }
     ensures bound { IfSome result IsWrittenYear }
 {
-    match named(word, LAST_YEARS)? {
+    match named_among(word, &LAST_YEARS)? {
         0 => Some(999_999_999),
         2 => Some(first),
         _ => None,
@@ -71,11 +84,11 @@ pub fn years(from: &[u8], to: &[u8]) -> Option<(i32, i32)>
 }
 
 /// The month that the word names.
-#[tactic(auto, unfolding(tz_specs::specs::Value::month_named))]
+#[tactic(auto, unfolding(tz_specs::specs::Value::month_named, tz_specs::specs::Word::named_entry))]
 pub fn month(word: &[u8]) -> Option<Month>
     ensures { result ≡ month_named word.now }
 {
-    match named(word, MONTHS)? {
+    match named_among(word, &MONTHS)? {
         0 => Some(Month::January),
         1 => Some(Month::February),
         2 => Some(Month::March),
@@ -211,18 +224,6 @@ pub fn is_beyond(name: &[u8], too_many: bool) -> bool
     ensures { result ≡ (is_long_name name.now || too_many) }
 {
     is_long_name(name) || too_many
-}
-
-/// The name, which is neither bad nor long.
-pub fn label(field: &[u8]) -> Label
-    requires good { is_bad_name field.now ≡ false }
-    requires short { is_long_name field.now ≡ false }
-    ensures { result ≡ field.now }
-{
-    let Ok(label) = Label::new(field) else {
-        unreachable!()
-    };
-    label
 }
 
 /// Whether the field starts as an amount does, and so is no rule's name.

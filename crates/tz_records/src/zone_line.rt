@@ -8,16 +8,17 @@ ghost use Rattle.tz_specs.specs.Written.{written_until};
 ghost use Rattle.tz_specs.specs.Record.{written_end, until_of, line_of, line_causes};
 ghost use Rattle.tz_records.specs.Entry.{written_entry_rules, written_entry_line};
 ghost use Rattle.tz_records.specs.FixedSave.{is_fixed_save};
+ghost use Rattle.tz_records.specs.FormatField.{format_told, is_visible_format};
 ghost use Rattle.tz_records.specs.RulesField.{is_long_named};
 ghost use Rattle.tz_records.specs.LineFields.{end_causes, until_causes, line_with};
 ghost use Rattle.tz_records.specs.Tells.{Tells};
 
 use crate::entry::{EntryLine, EntryRules};
-use crate::format_field::format_field;
+use crate::format_field::{FormatField, format_field};
 use crate::rules_field::{RulesField, rules_field};
 use crate::values::{month, rule_year, standard_offset, time, until_day};
 use tz_text::Fields;
-use tz_types::{Cause, Format, Moment, Until};
+use tz_types::{Cause, Moment, Until};
 
 /// The field at a place behind the first, or what stands for it where it is missing.
 #[tactic(auto, using(crate::proofs::ZoneLines::later_field))]
@@ -97,14 +98,15 @@ fn until(fields: &Fields<'_>, first: usize) -> Result<Option<Until>, Cause>
 fn entry_line<'a>(
     stdoff: i64,
     rules: EntryRules<'a>,
-    format: Format,
+    format: FormatField<'a>,
     until: Option<Until>,
     line: u32,
 ) -> EntryLine<'a>
     requires stdoff_in { IsShift stdoff }
     requires save_in { IsTrue (is_fixed_save rules) }
-    requires format_in { IsTrue (is_format format) }
-    ensures { written_entry_line result ≡ line_with stdoff (written_entry_rules rules.entry) format (option_map written_until until) line }
+    requires visible { IsTrue (is_visible_format (format_told format)) }
+    requires format_in { IsTrue (is_format (format_told format)) }
+    ensures { written_entry_line result ≡ line_with stdoff (written_entry_rules rules.entry) (format_told format.entry) (option_map written_until until) line }
 {
     EntryLine {
         stdoff,
@@ -159,5 +161,5 @@ pub fn zone_line<'a>(
     if is_beyond(&rules, too_many) {
         return Err(Cause::Limit);
     }
-    Ok(entry_line(stdoff, rules.rules(), format.format(), until, number))
+    Ok(entry_line(stdoff, rules.rules(), format, until, number))
 }

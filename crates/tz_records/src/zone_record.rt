@@ -6,7 +6,8 @@ ghost use Rattle.tz_records.specs.Entry.{written_entry};
 ghost use Rattle.tz_records.specs.Tells.{Tells};
 
 use crate::entry::Entry;
-use crate::values::{is_bad_name, is_beyond, label};
+use crate::given_name::GivenName;
+use crate::values::{is_bad_name, is_beyond};
 use crate::zone_line::zone_line;
 use tz_text::Fields;
 use tz_types::Cause;
@@ -27,7 +28,7 @@ pub fn zone_entry<'a>(fields: &Fields<'a>, number: u32, too_many: bool) -> Resul
         is_beyond(name, too_many),
     ) {
         Ok(line) => Ok(Entry::Zone {
-            name: label(name),
+            name: GivenName::of_field(name),
             line,
         }),
         Err(cause) => Err(cause),

@@ -7,16 +7,25 @@ ghost use Rattle.tz_text.specs.Bounds.{last_bound_of, bounded_of};
 
 use crate::bytes::{begins_with, place};
 use crate::digits::number;
-use crate::table::named;
+use crate::table::named_among;
 use tz_types::{On, Weekday};
 
-const WEEKDAYS: &[u8] = b"Sunday Monday Tuesday Wednesday Thursday Friday Saturday";
+const WEEKDAYS: [&[u8]; 7] = [
+    b"Sunday",
+    b"Monday",
+    b"Tuesday",
+    b"Wednesday",
+    b"Thursday",
+    b"Friday",
+    b"Saturday",
+];
 
 /// The weekday that the word names.
+#[tactic(auto, unfolding(tz_specs::specs::Word::named_entry))]
 fn weekday(word: &[u8]) -> Option<Weekday>
     ensures { result ≡ weekday_of word.now }
 {
-    match named(word, WEEKDAYS)? {
+    match named_among(word, &WEEKDAYS)? {
         0 => Some(Weekday::Sunday),
         1 => Some(Weekday::Monday),
         2 => Some(Weekday::Tuesday),

@@ -24,7 +24,7 @@ pub use duration::Amount;
 pub use local::local_time;
 pub use output::put_number;
 pub use second::second_of_day;
-pub use table::named;
+pub use table::{named, named_among};
 
 #[cfg(test)]
 mod tests;

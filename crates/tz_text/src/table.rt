@@ -1,17 +1,41 @@
-ghost use Rattle.std.specs.Prelude.{◌≡◌, []};
-ghost use Rattle.tz_specs.specs.Word.{begins_entry, named_entry};
+ghost use Rattle.std.specs.Prelude.{◌≡◌, [], map};
+ghost use Rattle.tz_specs.specs.Word.{begins_entry, only_one, places_from, named_entry};
 ghost use Rattle.tz_text.specs.Places.{only_with};
 
-use crate::bytes::{begins_with, place};
+use crate::bytes::{begins_with, lower_case, place};
 
-/// Whether the word is a nonempty prefix of the entry, ASCII case aside.
+/// Whether the word is a nonempty prefix of the entry, ASCII case aside. Most entries of a table differ from a word in their
+/// first letters, so these are looked at before anything else.
 fn begins(word: &[u8], entry: &[u8]) -> bool
     ensures { result ≡ begins_entry word.now entry.now }
 {
-    if word.is_empty() {
-        return false;
+    match (word, entry) {
+        ([first, ..], [letter, ..]) if lower_case(*first) == lower_case(*letter) => {
+            begins_with(entry, word)
+        }
+        _ => false,
     }
-    begins_with(entry, word)
+}
+
+/// The place, from 0, of the one of these entries that the word names: it is a nonempty prefix of that entry and of no other,
+/// ASCII case aside.
+pub fn named_among(word: &[u8], entries: &[&[u8]]) -> Option<usize>
+    ensures { result ≡ only_one (places_from 0 word.now (map (λ entry. entry.now) entries.now)) }
+{
+    let mut found = None;
+    let mut place = 0;
+    let mut rest = entries;
+    while let [entry, later @ ..] = rest {
+        if begins(word, entry) {
+            found = match found {
+                None => Some(place),
+                Some(_) => return None,
+            };
+        }
+        place += 1;
+        rest = later;
+    }
+    found
 }
 
 /// The place, from 0, of the one entry that the word names: it is a nonempty prefix of that entry and of no other,

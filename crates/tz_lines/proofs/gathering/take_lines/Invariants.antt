@@ -1,4 +1,5 @@
-use Rattle.std.proofs.Common.{◌≡◌, ◌+◌, ◌<◌, ◌≤◌, length, IsTrue}
+use Rattle.std.proofs.Common.{◌≡◌, ◌+◌, ◌<◌, ◌≤◌, ◌==◌, false, length, IsTrue}
+use Rattle.std.specs.List.{list_any}
 use Rattle.tz_specs.specs.Line.{lines_of}
 use Rattle.tz_specs.specs.Contents.{contents_after}
 use Rattle.tz_lines.specs.Gathered.{contents_gathered}
@@ -14,6 +15,7 @@ invariant-loop-rest l =
       before : IsTrue (are_before l.next (contents_gathered l.gathered).sets);
       names : length l.gathered.names.labels.items < l.next;
       within : l.next + length l.rest ≤ l.number + length l.text;
+      clean : l.nuls ≡ false → list_any (λ byte. byte == 0) l.rest ≡ false;
     }
 
 abbrev pub decreases-loop-rest : goal.decreases-loop-rest

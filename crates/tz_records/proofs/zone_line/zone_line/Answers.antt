@@ -33,5 +33,5 @@ returns c =
     let none : least_cause (line_causes c.args.badly_named c.args.too_many fields) ≡ None =
     last_cause c.args.badly_named c.args.too_many false fields _ _ _ said (rw c.field_at-field.ensures at c.if-field-gt24.false) within in
     let fits : FitsSigned w64 c.in-Some.stdoff = search rules in
-    let is = rw (c.rules.ensures.value, c.format.ensures) at (simp to_z-of_z at c.entry_line.ensures) in
+    let is = rw c.rules.ensures.value at (simp to_z-of_z at c.entry_line.ensures) in
     (none, line_said c.args.badly_named c.args.number fields _ _ _ (option_map written_until c.in-Ok.until) said c.in-Ok.ensures.1 ∙ rw is refl)

@@ -4,21 +4,21 @@ ghost use Rattle.tz_specs.specs.Value.{is_bad_name, is_long_name};
 
 use tz_types::Label;
 
-/// The name of a rule set, as its line has it: 1 to 255 bytes, all from 0x21 to 0x7E.
+/// A name as its line has it: 1 to 255 bytes, all from 0x21 to 0x7E.
 #[derive(Clone, Copy, Debug)]
-pub struct SetName<'a> {
+pub struct GivenName<'a> {
     bytes: &'a [u8],
     ghost text: { IsText 1 255 bytes.now },
 }
 
-impl<'a> SetName<'a> {
+impl<'a> GivenName<'a> {
     /// The name that a field gives, which is neither bad nor long.
     pub fn of_field(field: &'a [u8]) -> Self
         requires good { is_bad_name field.now ≡ false }
         requires short { is_long_name field.now ≡ false }
         ensures { result.bytes.now ≡ field.now }
     {
-        SetName { bytes: field }
+        GivenName { bytes: field }
     }
 
     /// Its bytes.
