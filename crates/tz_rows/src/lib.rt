@@ -2,9 +2,13 @@
 #![tactic(auto)]
 
 #[cfg(test)]
+mod batches;
+#[cfg(test)]
 mod days;
 #[cfg(test)]
 mod dumps;
+#[cfg(test)]
+mod generated;
 #[cfg(test)]
 mod links;
 #[cfg(test)]
