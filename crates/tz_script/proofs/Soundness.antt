@@ -1,5 +1,5 @@
 -- Where the operations of a script stand, with one line more.
-use Rattle.std.proofs.Common.{◌≡◌, ℕ, ◌+◌, ◌<◌, ◌≤◌, nat_lt, nat_le, Bool, true, false, not, ◌&&◌, ◌||◌, List, [], ◌∷◌, ◌++◌, length, Option, Some, None, IsTrue, length-append, refl, ap, ◌∙◌, cond, arith}
+use Rattle.std.proofs.Common.{◌≡◌, ℕ, ◌+◌, ◌<◌, ◌≤◌, nat_lt, nat_le, Bool, true, false, not, ◌&&◌, ◌||◌, List, [], ◌∷◌, ◌++◌, length, Option, None, IsTrue, length-append, refl, ap, ◌∙◌, cond, arith}
 use Rattle.std.specs.List.{list_all}
 use Rattle.std.proofs.lemmas.Bool.{and_parts}
 use Rattle.std.proofs.lemmas.List.Elements.{All-append, All-cons}
@@ -10,7 +10,6 @@ use Rattle.tz_types.specs.Order.{ascends, ascends_after}
 use Rattle.tz_script.specs.Cause.{least_script_cause}
 use Rattle.tz_script.specs.Contents.{ScriptContents}
 use Rattle.tz_script.specs.Inside.{lane_count, is_inside, stands_before, is_no_later, RoundsDontFall, all_stand_before, change_count, IsOrderly}
-use Rattle.tz_script.specs.Limit.{most_lanes}
 use Rattle.tz_script.specs.Line.{standing_causes, is_held_twice, is_unknown, is_crowded, is_missing, is_late}
 use Rattle.tz_script.specs.Operation.{is_change, hold_begun, hold_needed, source_asked}
 use Rattle.tz_script.specs.Size.{IsSized, AreSized}
@@ -85,15 +84,6 @@ no_later_pushed lanes rounds first (next ∷ operations) operation rising inside
 pub rounds_pushed : (lanes rounds : ℕ) (operations : List Operation) (operation : Operation) → RoundsDontFall operations → list_all (is_inside lanes rounds) operations ≡ true → operation.round ≡ rounds → RoundsDontFall (operations ++ operation ∷ [])
 rounds_pushed lanes rounds [] operation rising inside here = refl
 rounds_pushed lanes rounds (first ∷ operations) operation rising inside here = no_later_pushed lanes rounds first operations operation rising inside here
-
-pub sound_lanes : (lanes rounds : ℕ) (operations : List Operation) → 1 ≤ lanes → lanes ≤ most_lanes → IsOrderly None rounds operations → IsOrderly (Some lanes) rounds operations
-sound_lanes lanes rounds operations low high sound =
-    record {
-      lanes_in = grind arith;
-      few = sound.few;
-      inside = inside_more 0 lanes rounds rounds operations (omega arith) (omega arith) sound.inside;
-      rising = sound.rising;
-    }
 
 pub sound_round : (lanes : Option ℕ) (rounds : ℕ) (operations : List Operation) → IsOrderly lanes rounds operations → IsOrderly lanes (rounds + 1) operations
 sound_round lanes rounds operations sound =
