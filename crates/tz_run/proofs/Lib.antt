@@ -1,4 +1,5 @@
 pub mod Served
+pub mod LookupLemmas
 pub mod NamedHolds
 pub mod Passing
 pub mod Stocks

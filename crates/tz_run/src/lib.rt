@@ -6,11 +6,13 @@
 //! for scripts, on `tz_version` for versions, on `pin_core` for the list, and on `tz_batch` for what a run means.
 #![tactic(auto)]
 
+mod clock;
 mod desk;
 mod erase;
 mod gate;
 mod hold;
 mod holds;
+mod lookup;
 mod picked;
 mod places;
 mod reload;
