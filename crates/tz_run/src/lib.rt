@@ -12,11 +12,13 @@ mod erase;
 mod gate;
 mod hold;
 mod holds;
+mod inquiries;
 mod lookup;
 mod picked;
 mod places;
 mod reload;
 mod run;
+mod serve;
 
 pub use gate::{Gate, OpenGate};
 pub use run::{OpenError, run_script};
