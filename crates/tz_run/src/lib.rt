@@ -12,6 +12,7 @@ mod erase;
 mod gate;
 mod hold;
 mod holds;
+mod inquiries;
 mod lookup;
 mod picked;
 mod places;
