@@ -2,12 +2,11 @@
 //!
 //! The name is looked up first, so where it stands for no zone that is told, whatever the time. A lookup in the zone
 //! compares no texts and allocates nothing for itself; what the zone keeps of its windows changes no answer.
-ghost use Rattle.std.specs.Prelude.{◌≡◌, ◌<◌, ◌≤◌, ◌^◌, ◌↔◌, IsErr, IsSome, IfOk};
+ghost use Rattle.std.specs.Prelude.{◌≡◌, ◌<◌, ◌≤◌, ◌^◌, ◌↔◌, IsSome};
 ghost use Rattle.jiff_core.specs.Calendar.{IsWithin};
 ghost use Rattle.tz_specs.specs.Expansion.{IsInstant, range_at};
 ghost use Rattle.tz_expand.specs.Zone.{expansion_of};
 ghost use Rattle.tz_windows.specs.Scan.{scan_of};
-ghost use Rattle.tz_version.specs.Release.{IsVersionOf, IsZoneCalled, LacksZone};
 ghost use Rattle.tz_batch.specs.Finding.{FindsInfo, FindsLocal, FindsSys, FindsScan, FindsInZone};
 
 use std::alloc::Global;
@@ -17,19 +16,8 @@ use tz_batch::Found;
 use tz_expand::CompiledZone;
 use tz_local::{ToSysError, local_info, to_sys};
 use tz_types::{Choose, Steps, SysInfo};
-use tz_version::{NoZone, Version};
+use tz_version::Version;
 use tz_windows::{Scan, ZoneRef};
-
-/// The zone of a version that a name stands for. `NoZone` comes exactly where it stands for none.
-fn zone_called<'v>(version: &'v Version, name: &[u8]) -> Result<ZoneRef<'v>, NoZone>
-    ensures is { IsVersionOf version.now.sources version.now.src version.now }
-    ensures found { IfOk result (λ zone. IsZoneCalled version.now name.now zone) }
-    ensures missing { IsErr result ↔ LacksZone version.now name.now }
-{
-    // Any loan of what the version keeps says that it is the version of its source.
-    let _leaps = version.leaps();
-    version.zone(name)
-}
 
 /// The range of a zone that holds an instant, where nobody asks for the counts of probes and steps.
 fn range_uncounted<Q: Ledger, L: Ledger>(
@@ -126,7 +114,7 @@ fn scan_in(alloc: Global, zone: &mut ZoneRef<'_>, from: i64, step: u32, count: u
 pub fn find_info(alloc: Global, version: &Version, name: &[u8], t: i64) -> Found
     ensures { FindsInZone version.now.sources version.now.src name.now (λ compiled. FindsInfo compiled t) result }
 {
-    match zone_called(version, name) {
+    match version.zone(name) {
         Ok(mut zone) => info_in(alloc, &mut zone, t),
         Err(_) => Found::NoZone,
     }
@@ -136,7 +124,7 @@ pub fn find_info(alloc: Global, version: &Version, name: &[u8], t: i64) -> Found
 pub fn find_local(version: &Version, name: &[u8], l: i64) -> Found
     ensures { FindsInZone version.now.sources version.now.src name.now (λ compiled. FindsLocal compiled l) result }
 {
-    match zone_called(version, name) {
+    match version.zone(name) {
         Ok(zone) => local_in(zone.compiled(), l),
         Err(_) => Found::NoZone,
     }
@@ -146,7 +134,7 @@ pub fn find_local(version: &Version, name: &[u8], l: i64) -> Found
 pub fn find_sys(version: &Version, name: &[u8], l: i64, choose: Option<Choose>) -> Found
     ensures { FindsInZone version.now.sources version.now.src name.now (λ compiled. FindsSys compiled l choose) result }
 {
-    match zone_called(version, name) {
+    match version.zone(name) {
         Ok(zone) => sys_in(zone.compiled(), l, choose),
         Err(_) => Found::NoZone,
     }
@@ -166,7 +154,7 @@ pub fn find_scan(
     requires near { IsWithin (10 ^ 15) from }
     ensures { FindsInZone version.now.sources version.now.src name.now (λ compiled. FindsScan compiled from step count) result }
 {
-    match zone_called(version, name) {
+    match version.zone(name) {
         Ok(mut zone) => scan_in(alloc, &mut zone, from, step, count),
         Err(_) => Found::NoZone,
     }

@@ -130,6 +130,7 @@ impl Version {
     pub fn zone(&self, name: &[u8]) -> Result<ZoneRef<'_>, NoZone>
         ensures found { IfOk result (λ zone. IsZoneCalled self.now name.now zone) }
         ensures missing { IsErr result ↔ LacksZone self.now name.now }
+        ensures is { IsVersionOf self.now.sources self.now.src self.now }
     {
         match place_called(self.zones.as_slice(), self.links.as_slice(), name) {
             Some(place) => Ok(ZoneRef::new(
