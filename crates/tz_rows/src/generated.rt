@@ -114,7 +114,8 @@ impl Expected {
 
     /// Writes down a write.
     fn write(&mut self, change: String) -> Result<(), AllocError> {
-        self.writes.push(change)
+        self.writes.push(change)?;
+        Ok(())
     }
 
     /// A hold by a name.
