@@ -1,6 +1,6 @@
 pub mod Served
 pub mod LookupLemmas
-pub mod NamedHolds
-pub mod Passing
-pub mod Stocks
-pub mod Serves
+pub mod HoldLemmas
+pub mod DeskLemmas
+pub mod InquiryLemmas
+pub mod ReloadLemmas
