@@ -1,12 +1,12 @@
 //! What serves the operations of the one lane: a list of versions of its own, and the holds that are open on them.
 //!
-//! A desk keeps for each slot the version that the list has in it, or that a hold still holds there; so a version lives
-//! as long as someone can ask for it. It shows itself as the session that operations lead on from.
+//! For each slot a desk keeps the version that was put there last: one that is listed, or that was erased while a hold is
+//! open on it, or that nobody asks for any more, until its slot is taken again. Contracts see the desk as the session that
+//! operations lead on from.
 ghost use Rattle.std.specs.Prelude.{◌≡◌, ◌<◌, ◌≤◌, ◌↔◌, ◌++◌, ◌∷◌, [], length, map, filter, not, false, Some, Err, IsNone, IfSome, IsTrue, IfOk, OnOk, OnErr, IsErrOf};
 ghost use Rattle.tz_types.specs.declared.fault.Fault.{Fault};
 ghost use Rattle.tz_specs.specs.Value.{is_exactly};
-ghost use Rattle.tz_script.specs.Operation.{hold_needed, hold_picked, is_change, source_asked};
-ghost use Rattle.tz_script.specs.Size.{IsSized};
+ghost use Rattle.tz_script.specs.Operation.{hold_picked};
 ghost use Rattle.tz_version.specs.Release.{IsVersionOf};
 ghost use Rattle.tz_version.specs.Refusal.{RefusesLeapText, RefusesSource};
 ghost use Rattle.pin_core.specs.declared.limits.TheConstants.{FEWEST_SLOTS, MOST_SLOTS, MOST_WRITES};
@@ -15,7 +15,7 @@ ghost use Rattle.pin_core.specs.declared.after_error.AfterError.TheVariants as a
 ghost use Rattle.pin_core.specs.Replay.{allowed, is_listed, greatest_below};
 ghost use Rattle.tz_batch.specs.Batch.{row_of};
 ghost use Rattle.tz_run.specs.declared.hold.Hold.{Hold};
-ghost use Rattle.tz_run.specs.Session.{Session, opening_session, in_round, list_now, newest_now, is_taken, HoldsAs, Picks, IsFirstFree, IsFilled, with_change};
+ghost use Rattle.tz_run.specs.Session.{opening_session, in_round, list_now, newest_now, is_taken, HoldsAs, Picks, IsFirstFree, IsFilled, with_change};
 ghost use Rattle.tz_run.specs.Serving.{hold_at};
 ghost use Rattle.tz_run.specs.Asking.{HasHold};
 ghost use Rattle.tz_run.specs.Loan.{edition_lent};
