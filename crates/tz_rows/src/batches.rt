@@ -153,7 +153,7 @@ const ROWS: [(&str, Status, &str); 24] = [
         "journal 3\n1 1 1 push 2 1 1\n2 1 2 erase 2 1\n3 1 3 push 3 0 0\nreplies 6\n3 @0 held 1 0\n4 @1 pushed 2 1\n5 @2 2 1 erased 1\n6 @2 full\n7 @2 dropped 1 0\n8 @3 pushed 3 0\nend\n",
     ),
     (
-        "batch S3 2 - A C",
+        "batch S3 2 - A ju",
         Status::Ok,
         "journal 0\nreplies 5\n3 @0 held 1 0\n4 @0 refused 1 9\n5 @0 1 0 info 1710054000 1730613600 -14400 3600 EDT\n6 @0 1 0 nothing\n7 @0 dropped 1 0\nend\n",
     ),
@@ -167,15 +167,15 @@ const ROWS: [(&str, Status, &str); 24] = [
         Status::Ok,
         "journal 0\nreplies 2\n3 @0 1 0 scan 366 -5731200 2\n4 @0 1 0 nozone\nend\n",
     ),
-    ("batch all 3 L27 A B C", Status::Ok, ALL_PRINTED),
+    ("batch all 3 L27 A B ju", Status::Ok, ALL_PRINTED),
     ("batch undropped 4 - A", Status::Script, "script 3 5\n"),
     ("batch open 4 - A", Status::Script, "script 3 6\n"),
     ("batch empty 4 - A", Status::Script, "script 1 8\n"),
     ("batch lanes 4 - A", Status::Script, "script 1 8\n"),
     ("batch S1 4 - A", Status::Script, "script 3 9\n"),
-    ("batch S1 4 - C A", Status::Text, "text 1 9\n"),
-    ("batch S1 4 corr C A", Status::Text, "leaps 1 16\n"),
-    ("batch S1 4 - A,C B", Status::Text, "text 1 9 in 2\n"),
+    ("batch S1 4 - ju A", Status::Text, "text 1 9\n"),
+    ("batch S1 4 corr ju A", Status::Text, "leaps 1 16\n"),
+    ("batch S1 4 - A,ju B", Status::Text, "text 1 9 in 2\n"),
     // Two texts without a version have one name, and one that is given is another.
     (
         "batch S6 4 - N empty",
@@ -189,7 +189,7 @@ const ROWS: [(&str, Status, &str); 24] = [
     ),
     // A refusal of several files names the file.
     (
-        "batch S6 4 - N E,C",
+        "batch S6 4 - N E,ju",
         Status::Ok,
         "journal 0\nreplies 1\n3 @0 refused 1 9 in 2\nend\n",
     ),
@@ -206,7 +206,9 @@ const ROWS: [(&str, Status, &str); 24] = [
     ("batch open 4 - A absent", Status::Read, "read\n"),
 ];
 
-const SCRIPTS: [(&str, &str); 11] = [
+/// The scripts, and a text that is refused: no month is called so.
+const SCRIPTS: [(&str, &str); 12] = [
+    ("ju", "Rule X 2000 only - Ju 1 0 0 -\n"),
     ("S1", S1),
     ("S2", S2),
     ("S3", S3),

@@ -2,5 +2,5 @@ pub mod Session
 pub mod Asking
 pub mod Serving
 pub mod Leading
-pub mod Picked
+pub mod Loan
 pub mod Stock

@@ -1,12 +1,12 @@
 //! What serves the operations of the one lane: a list of versions of its own, and the holds that are open on them.
 //!
-//! A desk keeps for each slot the version that the list has in it, or that a hold still holds there; so a version lives
-//! as long as someone can ask for it. It shows itself as the session that operations lead on from.
+//! For each slot a desk keeps the version that was put there last: one that is listed, or that was erased while a hold is
+//! open on it, or that nobody asks for any more, until its slot is taken again. Contracts see the desk as the session that
+//! operations lead on from.
 ghost use Rattle.std.specs.Prelude.{◌≡◌, ◌<◌, ◌≤◌, ◌↔◌, ◌++◌, ◌∷◌, [], length, map, filter, not, false, Some, Err, IsNone, IfSome, IsTrue, IfOk, OnOk, OnErr, IsErrOf};
 ghost use Rattle.tz_types.specs.declared.fault.Fault.{Fault};
 ghost use Rattle.tz_specs.specs.Value.{is_exactly};
-ghost use Rattle.tz_script.specs.Operation.{hold_needed, hold_picked, is_change, source_asked};
-ghost use Rattle.tz_script.specs.Size.{IsSized};
+ghost use Rattle.tz_script.specs.Operation.{hold_picked};
 ghost use Rattle.tz_version.specs.Release.{IsVersionOf};
 ghost use Rattle.tz_version.specs.Refusal.{RefusesLeapText, RefusesSource};
 ghost use Rattle.pin_core.specs.declared.limits.TheConstants.{FEWEST_SLOTS, MOST_SLOTS, MOST_WRITES};
@@ -15,13 +15,13 @@ ghost use Rattle.pin_core.specs.declared.after_error.AfterError.TheVariants as a
 ghost use Rattle.pin_core.specs.Replay.{allowed, is_listed, greatest_below};
 ghost use Rattle.tz_batch.specs.Batch.{row_of};
 ghost use Rattle.tz_run.specs.declared.hold.Hold.{Hold};
-ghost use Rattle.tz_run.specs.Session.{Session, opening_session, in_round, list_now, newest_now, is_taken, HoldsAs, Picks, IsFirstFree, IsFilled, with_change};
+ghost use Rattle.tz_run.specs.Session.{opening_session, in_round, list_now, newest_now, is_taken, HoldsAs, Picks, IsFirstFree, IsFilled, with_change};
 ghost use Rattle.tz_run.specs.Serving.{hold_at};
 ghost use Rattle.tz_run.specs.Asking.{HasHold};
-ghost use Rattle.tz_run.specs.Picked.{edition_picked};
+ghost use Rattle.tz_run.specs.Loan.{edition_lent};
 
 use crate::hold::{Hold, hold_named, is_slot_held, let_go};
-use crate::picked::Picked;
+use crate::loan::Loan;
 use crate::places::{opening_places, put_version, version_in};
 use pin_core::{AfterError, Book, Listed, Write};
 use std::alloc::Global;
@@ -131,12 +131,12 @@ impl<'s> Desk<'s> {
     }
 
     /// The version at the front.
-    pub fn newest(&self) -> Picked<'_>
-        ensures front { edition_picked result ≡ newest_now self.now }
+    pub fn newest(&self) -> Loan<'_>
+        ensures front { edition_lent result ≡ newest_now self.now }
         ensures version { IsVersionOf self.now.sources result.src result.version.now }
     {
         let front = self.book.front();
-        Picked {
+        Loan {
             n: front.n,
             src: front.src,
             slot: front.slot,
@@ -145,13 +145,13 @@ impl<'s> Desk<'s> {
     }
 
     /// The version that a hold of this name holds.
-    pub fn held(&self, name: &HoldName) -> Picked<'_>
+    pub fn held(&self, name: &HoldName) -> Loan<'_>
         requires { HasHold self.now (Some name.now) }
-        ensures holds { HoldsAs self.now name.now (edition_picked result) }
+        ensures holds { HoldsAs self.now name.now (edition_lent result) }
         ensures version { IsVersionOf self.now.sources result.src result.version.now }
     {
         let hold = hold_named(self.holds.as_slice(), name);
-        Picked {
+        Loan {
             n: hold.n,
             src: hold.src,
             slot: hold.slot,
@@ -160,9 +160,9 @@ impl<'s> Desk<'s> {
     }
 
     /// The version that is picked.
-    pub fn picked(&self, pick: &Pick) -> Picked<'_>
+    pub fn picked(&self, pick: &Pick) -> Loan<'_>
         requires { HasHold self.now (hold_picked pick.now) }
-        ensures picks { Picks self.now pick.now (edition_picked result) }
+        ensures picks { Picks self.now pick.now (edition_lent result) }
         ensures version { IsVersionOf self.now.sources result.src result.version.now }
     {
         match pick {
@@ -249,9 +249,10 @@ impl<'s> Desk<'s> {
         self.book.erase(0, after)
     }
 
-    /// Holds the version at the front from a line on.
+    /// Holds the version at the front from a line on. After `NoMemory` nothing has changed.
     pub fn begin_hold(&mut self, line: u32, name: &HoldName) -> Result<(), NoMemory>
-        ensures { OnOk result (self.new ≡ record self.old { holds = self.old.holds ++ hold_at self.old line name.now ∷ [] }) }
+        ensures ok { OnOk result (self.new ≡ record self.old { holds = self.old.holds ++ hold_at self.old line name.now ∷ [] }) }
+        ensures err { OnErr result (self.new ≡ self.old) }
     {
         let front = self.book.front();
         self.holds.push(Hold {

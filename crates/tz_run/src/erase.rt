@@ -5,7 +5,7 @@ ghost use Rattle.tz_run.specs.Serving.{ServesErase};
 ghost use Rattle.tz_run.specs.Asking.{HasHold};
 
 use crate::desk::Desk;
-use crate::picked::Picked;
+use crate::loan::Loan;
 use pin_core::AfterError;
 use tz_batch::Answer;
 use tz_script::Pick;
@@ -17,7 +17,7 @@ impl<'s> Desk<'s> {
         requires room { length self.old.journal < self.old.room }
         ensures { ServesErase self.old pick.now result self.new }
     {
-        let Picked { n, slot, .. } = self.picked(pick);
+        let Loan { n, slot, .. } = self.picked(pick);
         match self.behind(n) {
             Ok(()) => {
                 let gone = self.take_off(n);

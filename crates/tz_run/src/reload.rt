@@ -1,5 +1,5 @@
 //! `reload`: the version of a source, put at the front of the list.
-ghost use Rattle.std.specs.Prelude.{◌≡◌, ◌<◌, ◌↔◌, length, IsTrue, IfOk};
+ghost use Rattle.std.specs.Prelude.{◌≡◌, ◌<◌, ◌↔◌, length, IsTrue, IfOk, OnErr};
 ghost use Rattle.tz_version.specs.Release.{IsVersionOf};
 ghost use Rattle.tz_batch.specs.declared.answer.Answer.TheVariants as answers;
 ghost use Rattle.tz_run.specs.Serving.{HasNewestName, ServesReload};
@@ -48,11 +48,13 @@ impl<'s> Desk<'s> {
         }
     }
 
-    /// Reloads the source at a place: reads it whole, and puts its version at the front.
+    /// Reloads the source at a place: reads it whole, and puts its version at the front. After
+    /// `NoMemory` nothing has changed.
     pub fn reload(&mut self, alloc: Global, src: u32) -> Result<Answer, NoMemory>
         requires room { length self.old.journal < self.old.room }
         requires there { src < length self.old.sources.texts }
-        ensures { IfOk result (λ answer. ServesReload self.old src answer self.new) }
+        ensures ok { IfOk result (λ answer. ServesReload self.old src answer self.new) }
+        ensures err { OnErr result (self.new ≡ self.old) }
     {
         match Version::make(alloc, self.sources(), src) {
             Ok(version) => Ok(self.take(src, version)),

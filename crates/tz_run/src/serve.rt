@@ -1,5 +1,5 @@
 //! Each operation in its turn.
-ghost use Rattle.std.specs.Prelude.{◌<◌, length, IfSome, IsTrue, IfOk};
+ghost use Rattle.std.specs.Prelude.{◌≡◌, ◌<◌, length, IfSome, IsTrue, IfOk, OnErr};
 ghost use Rattle.tz_script.specs.Operation.{hold_needed, is_change, source_asked};
 ghost use Rattle.tz_script.specs.Size.{IsSized};
 ghost use Rattle.tz_run.specs.Session.{in_round};
@@ -14,13 +14,14 @@ use tz_script::{Op, Operation};
 use tz_types::NoMemory;
 
 impl<'s> Desk<'s> {
-    /// Answers an operation of the round.
+    /// Answers an operation of the round. After `NoMemory` nothing has changed.
     fn answer(&mut self, alloc: Global, operation: &Operation) -> Result<Answer, NoMemory>
         requires room { IsTrue (is_change operation.now.op) → length self.old.journal < self.old.room }
         requires held { HasHold self.old (hold_needed operation.now.op) }
         requires there { IfSome (source_asked operation.now.op) (λ src. src < length self.old.sources.texts) }
         requires sized { IsSized operation.now.op }
-        ensures { IfOk result (λ answer. Serves self.old operation.now answer self.new) }
+        ensures ok { IfOk result (λ answer. Serves self.old operation.now answer self.new) }
+        ensures err { OnErr result (self.new ≡ self.old) }
     {
         match &operation.op {
             Op::Look => Ok(self.look()),
@@ -43,13 +44,15 @@ impl<'s> Desk<'s> {
         }
     }
 
-    /// Serves an operation. One of another round than before begins without an open hold.
+    /// Serves an operation. One of another round than before begins without an open hold. After
+    /// `NoMemory` only the round has begun.
     pub fn serve(&mut self, alloc: Global, operation: &Operation) -> Result<Reply, NoMemory>
         requires room { IsTrue (is_change operation.now.op) → length self.old.journal < self.old.room }
         requires held { HasHold (in_round operation.now.round self.old) (hold_needed operation.now.op) }
         requires there { IfSome (source_asked operation.now.op) (λ src. src < length self.old.sources.texts) }
         requires sized { IsSized operation.now.op }
         ensures served { IfOk result (λ reply. Steps self.old (record { operation = operation.now; reply = reply }) self.new) }
+        ensures failed { OnErr result (self.new ≡ in_round operation.now.round self.old) }
     {
         self.begin_round(operation.round);
         let answer = self.answer(alloc, operation)?;

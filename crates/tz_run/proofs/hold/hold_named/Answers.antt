@@ -1,6 +1,6 @@
 use Rattle.std.proofs.Common.{sym, ◌∙◌, arith}
 use Rattle.std.proofs.lemmas.Bool.{false≢true}
-use Rattle.tz_run.proofs.NamedHolds.{none_named}
+use Rattle.tz_run.proofs.HoldLemmas.{none_named}
 use Rattle.tz_run.proofs.hold.hold_named.Goals as goal
 
 pub unreachable-requires : goal.unreachable-requires

@@ -1,4 +1,4 @@
-use Rattle.std.proofs.Common.{◌≡◌, ◌<◌, length, slice_get}
+use Rattle.std.proofs.Common.{◌≡◌, length, slice_get}
 use Rattle.tz_run.proofs.places.opening_places.Given as goal
 
 abbrev pub invariant-loop : goal.invariant-loop

@@ -4,7 +4,7 @@ use Rattle.pin_core.specs.Replay.{Edition, front_of}
 use Rattle.pin_core.specs.Book.{list_of}
 use Rattle.tz_run.specs.declared.hold.Hold.{Hold}
 use Rattle.tz_run.specs.Session.{edition_held}
-use Rattle.tz_run.proofs.Stocks.{held_stocked}
+use Rattle.tz_run.proofs.DeskLemmas.{held_stocked}
 use Rattle.tz_run.proofs.desk.Desk.begin_hold.Goals as goal
 
 pub invariant_of-self-2 : goal.invariant_of-self-2

@@ -1,7 +1,7 @@
 use Rattle.std.proofs.Common.{not}
 use Rattle.tz_specs.specs.Value.{is_exactly}
 use Rattle.tz_run.specs.declared.hold.Hold.{Hold}
-use Rattle.tz_run.proofs.Stocks.{dropped_stocked}
+use Rattle.tz_run.proofs.DeskLemmas.{dropped_stocked}
 use Rattle.tz_run.proofs.desk.Desk.end_hold.Goals as goal
 
 pub invariant_of-self : goal.invariant_of-self

@@ -1,5 +1,5 @@
 use Rattle.std.proofs.Common.{◌∙◌}
-use Rattle.tz_run.proofs.Stocks.{front_named}
+use Rattle.tz_run.proofs.DeskLemmas.{front_named}
 use Rattle.tz_run.proofs.desk.Desk.front.Goals as goal
 
 pub returns : goal.returns

@@ -1,5 +1,5 @@
 use Rattle.tz_run.specs.Session.{edition_held}
-use Rattle.tz_run.proofs.Stocks.{placed_version}
+use Rattle.tz_run.proofs.DeskLemmas.{placed_version}
 use Rattle.tz_run.proofs.desk.Desk.held.Goals as goal
 
 pub version_in-requires : goal.version_in-requires

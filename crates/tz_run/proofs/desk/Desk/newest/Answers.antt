@@ -1,6 +1,6 @@
 use Rattle.pin_core.specs.Replay.{Edition, front_of}
 use Rattle.pin_core.specs.Book.{list_of}
-use Rattle.tz_run.proofs.Stocks.{front_is_listed, placed_version}
+use Rattle.tz_run.proofs.DeskLemmas.{front_is_listed, placed_version}
 use Rattle.tz_run.proofs.desk.Desk.newest.Goals as goal
 
 pub version_in-requires : goal.version_in-requires

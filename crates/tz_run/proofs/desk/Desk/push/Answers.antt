@@ -1,4 +1,4 @@
-use Rattle.std.proofs.Common.{◌≡◌, ◌∷◌, [], ◌++◌, refl, sym, ap, ◌∙◌, subst}
+use Rattle.std.proofs.Common.{◌≡◌, refl, sym, ap, ◌∙◌, subst}
 use Rattle.std.proofs.lemmas.Bool.{or_parts}
 use Rattle.tz_version.specs.Release.{Release, IsVersionOf}
 use Rattle.pin_core.specs.declared.write.Change.TheVariants.{Push}
@@ -8,7 +8,7 @@ use Rattle.pin_core.specs.Sequence.{next_seq}
 use Rattle.pin_core.specs.Book.{list_of}
 use Rattle.tz_run.specs.Session.{Session, IsFirstFree, is_slot_held}
 use Rattle.tz_run.specs.Stock.{session_over}
-use Rattle.tz_run.proofs.Stocks.{written, pushed_stocked, push_allowed}
+use Rattle.tz_run.proofs.DeskLemmas.{pushed_stocked, push_allowed}
 use Rattle.tz_run.proofs.desk.Desk.push.Goals as goal
 
 free : (c : goal.After-put_version) → IsFirstFree (session_over c.self.inside.sources.now c.self.inside.book c.self.inside.round c.self.inside.holds.items) c.args.slot

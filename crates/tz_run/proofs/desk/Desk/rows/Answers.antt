@@ -1,5 +1,5 @@
 use Rattle.std.proofs.Common.{◌∙◌}
-use Rattle.tz_run.proofs.Stocks.{listed_named, few_rows}
+use Rattle.tz_run.proofs.DeskLemmas.{listed_named, few_rows}
 use Rattle.tz_run.proofs.desk.Desk.rows.Goals as goal
 
 pub returns-clause-rows : goal.returns-clause-rows

@@ -1,7 +1,7 @@
-use Rattle.std.proofs.Common.{◌≡◌, refl, sym, ap, ◌∙◌}
+use Rattle.std.proofs.Common.{refl, sym, ap, ◌∙◌}
 use Rattle.std.proofs.lemmas.Bool.{false≢true}
 use Rattle.pin_core.specs.Replay.{Edition}
-use Rattle.tz_run.proofs.Serves.{made_is_accepted}
+use Rattle.tz_run.proofs.ReloadLemmas.{made_is_accepted}
 use Rattle.tz_run.proofs.desk.Desk.take.Goals as goal
 
 pub returns-then-has_newest_name : goal.returns-then-has_newest_name

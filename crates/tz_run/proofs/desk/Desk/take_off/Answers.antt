@@ -2,8 +2,7 @@ use Rattle.std.proofs.Common.{refl}
 use Rattle.pin_core.specs.declared.write.Change.TheVariants.{Erase}
 use Rattle.pin_core.specs.declared.write.Write.{Write}
 use Rattle.pin_core.specs.Sequence.{next_seq}
-use Rattle.pin_core.specs.Book.{IsBook}
-use Rattle.tz_run.proofs.Stocks.{written, erased_stocked}
+use Rattle.tz_run.proofs.DeskLemmas.{erased_stocked}
 use Rattle.tz_run.proofs.desk.Desk.take_off.Goals as goal
 
 pub invariant_of-self : goal.invariant_of-self

@@ -1,6 +1,6 @@
 use Rattle.std.proofs.Common.{◌≡◌, ap, ◌∙◌}
 use Rattle.tz_version.specs.Release.{Release}
-use Rattle.tz_run.proofs.Stocks.{opening_stocked}
+use Rattle.tz_run.proofs.DeskLemmas.{opening_stocked}
 use Rattle.tz_run.proofs.desk.Desk.with_first.Goals as goal
 
 pub invariant_of-result : goal.invariant_of-result

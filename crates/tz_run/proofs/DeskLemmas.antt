@@ -1,7 +1,6 @@
--- What a desk keeps stands after each of its changes.
-use Rattle.std.proofs.Common.{◌≡◌, ℕ, zero, suc, ◌+◌, ◌-◌, ◌<◌, ◌≤◌, ◌⊎◌, inl, inr, Bool, true, false, not, ◌||◌, eqb, List, [], ◌∷◌, ◌++◌, length, map, filter, get_or, set, length-set, get_or-set_same, get_or-set_other, slice_get, Contains, Option, Some, None, refl, sym, ap, ◌∙◌, ⊎_elim, subst, arith}
-use Rattle.std.specs.List.{list_any}
-use Rattle.std.proofs.lemmas.Bool.{or_parts, or_cases, eqb-false, eqb-true}
+-- What a desk keeps is there to begin with, and stands after each of its changes.
+use Rattle.std.proofs.Common.{◌≡◌, ℕ, zero, suc, ◌+◌, ◌-◌, ◌<◌, ◌≤◌, ◌⊎◌, inl, inr, Bool, true, false, not, eqb, List, [], ◌∷◌, ◌++◌, length, map, filter, get_or, set, length-set, get_or-set_same, get_or-set_other, slice_get, Contains, Option, Some, refl, sym, ap, ◌∙◌, ⊎_elim, subst, arith}
+use Rattle.std.proofs.lemmas.Bool.{or_parts, eqb-false}
 use Rattle.std.proofs.lemmas.Option.{slice_get_within, slice_get-get_or, get_or_from_slice_get}
 use Rattle.std.proofs.lemmas.List.{get_or_push, get_or_append_left, length-map}
 use Rattle.std.proofs.lemmas.List.Elements.{All-contains, All-filter, All-contains_itself, Contains-push_cases}
@@ -12,7 +11,7 @@ use Rattle.tz_version.specs.Release.{Release, IsVersionOf}
 use Rattle.pin_core.specs.declared.limits.TheConstants.{FEWEST_SLOTS, MOST_SLOTS, MOST_WRITES}
 use Rattle.pin_core.specs.declared.write.Change.TheVariants.{Push, Erase}
 use Rattle.pin_core.specs.declared.write.Write.{Write}
-use Rattle.pin_core.specs.Replay.{Edition, ListState, front_of, is_listed, is_slot_listed, greatest_below, allowed, after_change, state_after}
+use Rattle.pin_core.specs.Replay.{Edition, ListState, front_of, is_listed, is_slot_listed, greatest_below, allowed, after_change}
 use Rattle.pin_core.specs.Pushes.{pushes}
 use Rattle.pin_core.specs.declared.listed.Listed.{Listed}
 use Rattle.pin_core.specs.Names.{name_of, with_name, with_names}

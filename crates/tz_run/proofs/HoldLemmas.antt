@@ -1,7 +1,5 @@
 -- Holds by their names.
-use Rattle.std.proofs.Common.{◌≡◌, ℕ, zero, suc, ◌<◌, ◌||◌, Bool, true, false, List, [], ◌∷◌, length, map, get_or, refl, sym, ap, ◌∙◌, arith}
-use Rattle.std.specs.List.{list_any}
-use Rattle.std.proofs.lemmas.Bool.{or_cases}
+use Rattle.std.proofs.Common.{◌≡◌, ℕ, suc, ◌<◌, ◌||◌, Bool, false, List, [], ◌∷◌, length, map, get_or, refl, arith}
 use Rattle.tz_specs.specs.Value.{is_exactly}
 use Rattle.tz_script.specs.Keeping.{is_named}
 use Rattle.tz_run.specs.declared.hold.Hold.{Hold}

@@ -1,0 +1,6 @@
+-- Versions that are lent, as versions of the list.
+use Rattle.pin_core.specs.Replay.{Edition}
+use Rattle.tz_run.specs.declared.loan.Loan.{Loan}
+
+abbrev pub edition_lent : Loan → Edition
+edition_lent loan = record { n = loan.n; src = loan.src; slot = loan.slot }
