@@ -1,5 +1,6 @@
 pub mod Assembly
 pub mod DeskLemmas
+pub mod Errors
 pub mod HeldNames
 pub mod HoldLemmas
 pub mod InquiryLemmas

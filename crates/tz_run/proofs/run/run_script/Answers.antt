@@ -1,5 +1,5 @@
 use Rattle.tz_version.specs.declared.error.MakeError.TheVariants as errors
-use Rattle.tz_run.proofs..antt.{passed_on}
+use Rattle.tz_run.proofs.Errors.{passed_on}
 use Rattle.tz_run.proofs.run.run_script.Goals as goal
 
 pub returns-in-Ok-run_at-clause-leaps : goal.returns-in-Ok-run_at-clause-leaps

@@ -1,15 +1,6 @@
-use Rattle.std.proofs.Common.{◌≡◌, ◌↔◌, Result, Err, ap}
 use Rattle.tz_version.specs.declared.error.MakeError.TheVariants as errors
+use Rattle.tz_run.proofs.Errors.{passed_on}
 use Rattle.tz_run.proofs.desk.Desk.open.Goals as goal
-
-same_inside : {A E : Type 0} (e f : E) → ◌≡◌ {A = Result A E} (Err e) (Err f) → e ≡ f
-same_inside e f same = cc
-
--- an error but one comes exactly where it came before
-passed_on : {A B E : Type 0} (e none f : E) (P : Type 0) → (¬ (◌≡◌ {A = Result A E} (Err e) (Err none)) → (◌≡◌ {A = Result A E} (Err e) (Err f)) ↔ P) → ¬ (◌≡◌ {A = Result B E} (Err e) (Err none)) → (◌≡◌ {A = Result B E} (Err e) (Err f)) ↔ P
-passed_on e none f P exactly some =
-    let before = exactly (λ same. some (ap Err (same_inside e none same))) in
-    ((λ same. before.0 (ap Err (same_inside e f same))), (λ holds. ap Err (same_inside e f (before.1 holds))))
 
 pub returns-in-Ok-with_first-clause-text : goal.returns-in-Ok-with_first-clause-text
 returns-in-Ok-with_first-clause-text c = λ fault some.
