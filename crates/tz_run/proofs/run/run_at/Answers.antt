@@ -1,4 +1,3 @@
-use Rattle.std.proofs.Common.{◌≡◌, sym, subst}
 use Rattle.tz_run.proofs.Loop.{outcome_is_run}
 use Rattle.tz_run.proofs.run.run_at.Goals as goal
 

@@ -1,5 +1,3 @@
-use Rattle.std.proofs.Common.{◌≡◌, get_or, take, subst, sym}
-use Rattle.tz_run.specs.Leading.{Steps, AreServed}
 use Rattle.tz_run.proofs.Loop.{may_serve_of, served_one_more}
 use Rattle.tz_run.proofs.run.serve_all.Goals as goal
 
