@@ -1,27 +1,22 @@
 -- What is due of a batch, and which status is.
-use Rattle.std.proofs.Common.{◌≡◌, ℕ, true, false, ◌⊎◌, inl, inr, List, [], ◌∷◌, length, codes, Option, Result, Ok, Err, Vec, refl, sym, ap, ◌∙◌, subst}
-use Rattle.std.specs.List.{AllZip, Any}
+use Rattle.std.proofs.Common.{◌≡◌, ℕ, ◌⊎◌, inl, inr, List, Option, Result, Ok, Err, Vec, refl, subst}
 use Rattle.std.specs.declared.alloc.Global.{Global}
 use Rattle.tz_version.specs.declared.sources.Sources.{Sources}
 use Rattle.tz_batch.specs.declared.outcome.Outcome.{Outcome}
 use Rattle.tz_io.specs.Sink.{Appends}
 use Rattle.tz_batch.specs.OutcomeText.{outcome_text}
-use Rattle.tz_cli.specs.Answer.{IsAnswer}
-use Rattle.tz_cli.specs.BatchCommand.{BatchCommand, IsBatchCommand}
-use Rattle.tz_cli.specs.Command.{Command, IsCommand, files_of}
-use Rattle.tz_cli.specs.Outcome.{FileContents, Holds, IsDue}
+use Rattle.tz_cli.specs.BatchCommand.{BatchCommand}
+use Rattle.tz_cli.specs.Outcome.{FileContents, Failed}
 use Rattle.tz_cli.specs.Refusal.{Refuses, Gives, refusal_status, refusal_line}
 use Rattle.tz_cli.specs.declared.status.Status.{Status}
 use Rattle.tz_cli.specs.declared.status.Status.TheVariants as statuses
 use Rattle.tz_cli.specs.declared.refusal.Refusal.{Refusal}
 use Rattle.tz_cli.specs.declared.refusal.Refusal.TheVariants as refusals
-use Rattle.tz_cli.proofs.BatchWords.{one_batch}
-use Rattle.tz_cli.proofs.Once.{batch_alone}
-use Rattle.tz_top.specs.Groups.{HoldsGroups, MayReadGroups, AnyFailed}
+use Rattle.tz_top.specs.Groups.{HoldsGroups, AnyFailed}
 use Rattle.tz_top.specs.Refusal.{RefusesGroups}
 use Rattle.tz_top.specs.BatchTexts.{file_groups, AreReadTexts}
-use Rattle.tz_top.specs.BatchAnswer.{BatchAnswers, AnswersOver, IsBatchAnswer}
-use Rattle.tz_top.specs.Due.{IsOutcomeOf, IsBatchDue, IsDueOfAny}
+use Rattle.tz_top.specs.BatchAnswer.{BatchAnswers, IsBatchAnswer}
+use Rattle.tz_top.specs.Due.{IsOutcomeOf, IsBatchDue}
 use Rattle.tz_top.proofs.Groups.{same_groups, too_large_groups, some_group_failed}
 use Rattle.tz_top.proofs.Once.{batch_once, large_once}
 
@@ -52,9 +47,11 @@ pub refusal_due : (batch : BatchCommand) (told : Option FileContents) (failed : 
 refusal_due batch told failed refusals.Memory refused = refl
 refusal_due batch told failed refusal refused = refused
 
--- a batch has no usage line
-pub no_usage : (batch : BatchCommand) (told : Option FileContents) (failed : List ℕ → Type 0) (line : List ℕ) → IsBatchDue batch told failed statuses.Usage line → ⊥
-no_usage batch told failed line due = due.2.answers
+-- what is due by what was counted since an earlier time at which the counts stood as they do, and the files told the same
+pub due_since : (batch : BatchCommand) (told now : Option FileContents) (before here after : List ℕ → ℕ) (status : Status) (line : List ℕ) → now ≡ told → ((name : List ℕ) → here name ≡ before name) → IsBatchDue batch now (Failed here after) status line → IsBatchDue batch told (Failed before after) status line
+due_since batch told now before here after status line same unharmed due =
+    let counts : here ≡ before = λ i name. unharmed name i in
+    subst (λ (it : Option FileContents). IsBatchDue batch it (Failed before after) status line) same (subst (λ (it : List ℕ → ℕ). IsBatchDue batch now (Failed it after) status line) counts due)
 
 -- what is due at 0 is the text of an outcome
 pub outcome_due : (batch : BatchCommand) (told : Option FileContents) (failed : List ℕ → Type 0) (line : List ℕ) (had has : Option (List ℕ)) → IsBatchDue batch told failed statuses.Ok line → Appends had has line → (outcome : Outcome) × IsOutcomeOf batch told outcome × Appends had has (outcome_text outcome)

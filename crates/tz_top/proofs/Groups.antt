@@ -1,11 +1,11 @@
 -- What is read of groups of files, one after another, and what stops the reading.
-use Rattle.std.proofs.Common.{◌≡◌, ℕ, ◌≤◌, nat_lt, Bool, true, false, ◌||◌, List, [], ◌∷◌, ◌++◌, length, Option, Some, None, refl, sym, ap, ◌∙◌, subst, arith}
-use Rattle.std.specs.List.{AllZip, Any, list_any, slice_index_or}
+use Rattle.std.proofs.Common.{◌≡◌, ℕ, ◌≤◌, nat_lt, Bool, true, false, ◌||◌, List, [], ◌∷◌, ◌++◌, length, Option, refl, ap, subst, arith}
+use Rattle.std.specs.List.{slice_index_or}
 use Rattle.std.proofs.lemmas.Bool.{true≢false, lt-ltb, le-ltb}
 use Rattle.std.proofs.lemmas.List.{length-append}
 use Rattle.tz_types.specs.Limit.{most_bytes}
 use Rattle.tz_types.specs.Source.{bytes_together}
-use Rattle.tz_cli.specs.Outcome.{FileContents, Holds, MayReadAll, Failed, FailsToRead, ReadsTooMuch}
+use Rattle.tz_cli.specs.Outcome.{FileContents, MayReadAll, Failed, ReadsTooMuch}
 use Rattle.tz_cli.specs.Refusal.{RefusesContents}
 use Rattle.tz_cli.specs.declared.refusal.Refusal.{Refusal}
 use Rattle.tz_cli.specs.declared.refusal.Refusal.TheVariants as refusals

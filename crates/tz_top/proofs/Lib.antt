@@ -1,4 +1,5 @@
 pub mod Groups
 pub mod SourcesRead
 pub mod Once
+pub mod Outcomes
 pub mod Due

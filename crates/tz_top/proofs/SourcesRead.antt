@@ -1,20 +1,21 @@
 -- The sources of texts named, read one after another.
-use Rattle.std.proofs.Common.{◌≡◌, ℕ, ◌+◌, ◌<◌, ◌≤◌, Bool, true, zero, List, [], ◌∷◌, ◌++◌, length, get_or, take, drop, map, Option, Some, None, is_some, String, string_bytes, refl, sym, ap, ◌∙◌, subst, suc, append-nil, arith}
-use Rattle.std.specs.List.{AllZip, concat, list_all, filter_map}
+use Rattle.std.proofs.Common.{◌≡◌, ℕ, ◌+◌, ◌<◌, ◌≤◌, nat_le, ◌&&◌, Bool, true, zero, List, [], ◌∷◌, ◌++◌, length, get_or, take, drop, Option, Some, None, is_some, String, string_bytes, refl, sym, ap, ◌∙◌, suc, append-nil, arith}
+use Rattle.std.specs.List.{concat, list_all}
 use Rattle.std.specs.declared.alloc.Global.{Global}
-use Rattle.std.proofs.lemmas.Bool.{false≢true, and_parts}
-use Rattle.std.proofs.lemmas.List.{take-append-drop, drop_more, take_more, length-map, map-append}
+use Rattle.std.proofs.lemmas.Bool.{false≢true, and_parts, leb-true}
+use Rattle.std.proofs.lemmas.List.{take-append-drop, drop_more, take_more, map-append}
 use Rattle.std.proofs.lemmas.List.Elements.{filter_map-append}
 use Rattle.tz_types.specs.Limit.{most_bytes}
 use Rattle.tz_types.specs.Source.{bytes_together}
 use Rattle.tz_types.specs.declared.source.Source.{Source}
+use Rattle.tz_version.specs.Sources.{most_sources}
 use Rattle.tz_version.specs.declared.sources.Sources.{Sources}
 use Rattle.tz_cli.specs.NamedText.{NamedText, IsSourceOf}
-use Rattle.tz_cli.specs.BatchCommand.{IsTextOf, text_in, name_texts, texts_in}
+use Rattle.tz_cli.specs.BatchCommand.{BatchCommand, IsTextOf, text_in, name_texts, are_texts, texts_in}
+use Rattle.tz_cli.specs.Command.{leap_files}
 use Rattle.tz_cli.specs.Outcome.{FileContents, MayReadAll}
-use Rattle.tz_top.specs.Groups.{MayReadGroups, is_too_large}
-use Rattle.tz_top.specs.BatchTexts.{text_groups, AreSourcesOf, IsReadSource, AreReadSources}
-use Rattle.tz_top.proofs.Groups.{few_after, one_more_group}
+use Rattle.tz_top.specs.BatchTexts.{text_groups, AreSourcesOf, IsReadSource, AreReadSources, AreReadTexts}
+use Rattle.tz_top.proofs.Groups.{few_before, few_after, one_more_group}
 
 -- one more source
 one_more_source : (texts : List NamedText) (contents : List (List (List ℕ))) (sources : List Source) (text : NamedText) (those : List (List ℕ)) (source : Source) → AreSourcesOf texts contents sources → IsSourceOf text those source → AreSourcesOf (texts ++ text ∷ []) (contents ++ those ∷ []) (sources ++ source ∷ [])
@@ -53,10 +54,17 @@ passes_at test (y ∷ xs) zero x all within = (and_parts (test y) (list_all test
 passes_at test (y ∷ xs) (suc i) x all within =
     passes_at test xs i x (and_parts (test y) (list_all test xs) all).1 (omega (arith, within))
 
--- a word of those that name texts names one
-pub names_at : (words : List (String Global)) (i : ℕ) (word : String Global) → name_texts words ≡ true → i < length words → word ≡ get_or words i word → is_some (text_in word) ≡ true
-names_at words i word all within at =
-    ap (λ (it : String Global). is_some (text_in it)) at ∙ passes_at (λ word. is_some (text_in word)) words i word all within
+-- the text that a word names, of those that name texts
+pub text_at : (words : List (String Global)) (i : ℕ) (word : String Global) → name_texts words ≡ true → i < length words → word ≡ get_or words i word → (text : NamedText) × IsTextOf (string_bytes word) text
+text_at words i word all within at = by_text (text_in word) refl
+  where
+    there : is_some (text_in word) ≡ true
+    there =
+        ap (λ (it : String Global). is_some (text_in it)) at ∙ passes_at (λ word. is_some (text_in word)) words i word all within
+
+    by_text : (text : Option NamedText) → text_in word ≡ text → (text : NamedText) × IsTextOf (string_bytes word) text
+    by_text None is = absurd (false≢true (sym (ap is_some is) ∙ there))
+    by_text (Some text) is = (text, is)
 
 -- the texts in words with one more
 texts_with : (words : List (String Global)) (word : String Global) (text : NamedText) → text_in word ≡ Some text → texts_in (words ++ word ∷ []) ≡ texts_in words ++ text ∷ []
@@ -88,3 +96,36 @@ groups_at words i word text within at is =
     let later : texts_in (word ∷ drop (i + 1) words) ≡ text ∷ texts_in (drop (i + 1) words) = rw is refl in
     let texts : texts_in words ≡ texts_in (take i words) ++ text ∷ texts_in (drop (i + 1) words) = ap texts_in all ∙ filter_map-append text_in (take i words) (word ∷ drop (i + 1) words) ∙ ap (λ (them : List NamedText). texts_in (take i words) ++ them) later in
     ap text_groups texts ∙ map-append (λ (text : NamedText). text.files) (texts_in (take i words)) (text ∷ texts_in (drop (i + 1) words))
+
+-- the sources of one to 64 words
+pub some_sources : (told : Option FileContents) (words : List (String Global)) (sources : List Source) → are_texts words ≡ true → AreReadSources told (texts_in words) sources → (1 ≤ length sources) × (length sources ≤ most_sources)
+some_sources told words sources are have =
+    let both = and_parts (nat_le 1 (length words) && nat_le (length words) most_sources) (name_texts words) are in
+    let range = and_parts (nat_le 1 (length words)) (nat_le (length words) most_sources) both.0 in
+    let low = leb-true 1 (length words) range.0 in
+    let high = leb-true (length words) most_sources range.1 in
+    let long : length sources ≡ length words = each_source (texts_in words) have.contents sources have.are ∙ each_named words both.1 in
+    (omega (arith, low, long), omega (arith, high, long))
+
+-- the contents of one file are one
+lone : (told : Option FileContents) (name : List ℕ) (contents : List (List ℕ)) → MayReadAll told (name ∷ []) contents → contents ≡ concat contents ∷ []
+lone told name [] read = absurd read
+lone told name (c ∷ []) read = ap (λ (it : List ℕ). it ∷ []) (sym (append-nil c))
+lone told name (c ∷ d ∷ contents) read = absurd read.1
+
+-- what was read of the script's file, of the leap text's and of the texts are the texts of the batch
+pub texts_read : (told : Option FileContents) (batch : BatchCommand) (script_file leap_file : List (List ℕ)) (script : List ℕ) (sources : Sources) → MayReadAll told (batch.script ∷ []) script_file → bytes_together script_file ≤ most_bytes → script ≡ concat script_file → MayReadAll told (leap_files batch.leaps) leap_file → bytes_together leap_file ≤ most_bytes → sources.leaps ≡ concat leap_file → AreReadSources told batch.texts sources.texts → AreReadTexts told batch script sources
+texts_read told batch script_file leap_file script sources first few script_is second few_leaps leaps_are have =
+    let one : script_file ≡ script ∷ [] = lone told batch.script script_file first ∙ ap (λ (it : List ℕ). it ∷ []) (sym script_is) in
+    record {
+      contents = script_file ∷ leap_file ∷ have.contents;
+      read = (first, (second, have.read));
+      few_bytes = few_before script_file (leap_file ∷ have.contents) few (few_before leap_file have.contents few_leaps have.few_bytes);
+      are = record {
+        leaps = leap_file;
+        texts = have.contents;
+        contents_are = ap (λ (it : List (List ℕ)). it ∷ leap_file ∷ have.contents) one;
+        leaps_are = leaps_are;
+        sources_are = have.are;
+      };
+    }

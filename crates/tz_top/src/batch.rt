@@ -24,7 +24,7 @@ fn answer<F: Files, G: Gate>(
     files: &mut F,
     gate: &G,
 ) -> Result<Vec<u8>, Refusal>
-    ensures due { Gives (IsBatchDue (batch_meant line) (F.told files.old) (Failed (F.faults files.old) (F.faults files.new))) result }
+    ensures due { Gives (IsBatchDue (batch_meant line.entry) (F.told files.old) (Failed (F.faults files.old) (F.faults files.new))) result }
     ensures told { F.told files.new ≡ F.told files.old }
 {
     match read_texts(alloc, line, files) {
@@ -44,11 +44,11 @@ pub fn run_batch<F: Files, S: Sink, G: Gate>(
     gate: &G,
 ) -> Status
     ensures whole { result ≢ Status.Write →
-        (printed : List ℕ) × IsBatchDue (batch_meant line) (F.told files.old) (Failed (F.faults files.old) (F.faults files.new)) result printed
+        (printed : List ℕ) × IsBatchDue (batch_meant line.entry) (F.told files.old) (Failed (F.faults files.old) (F.faults files.new)) result printed
         × Appends (S.taken sink.old) (S.taken sink.new) printed }
     ensures part { result ≡ Status.Write →
         (status : DeclaredStatus) × (printed : List ℕ)
-        × IsBatchDue (batch_meant line) (F.told files.old) (Failed (F.faults files.old) (F.faults files.new)) status printed
+        × IsBatchDue (batch_meant line.entry) (F.told files.old) (Failed (F.faults files.old) (F.faults files.new)) status printed
         × AppendsPart (S.taken sink.old) (S.taken sink.new) printed }
     ensures write { result ≡ Status.Write → Rose (S.faults sink.old) (S.faults sink.new) ⊎ Rose (S.stalls sink.old) (S.stalls sink.new) }
     ensures told { F.told files.new ≡ F.told files.old }

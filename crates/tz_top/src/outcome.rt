@@ -68,7 +68,11 @@ pub fn batch_text<G: Gate>(
     requires { (FEWEST_SLOTS ≤ slots) × (slots ≤ MOST_SLOTS) }
     ensures { Gives (BatchAnswers slots texts.script texts.sources) result }
 {
-    let script = match script_of(alloc, texts.script.as_slice(), texts.sources.texts.len() as u32) {
+    let script = match script_of(
+        alloc,
+        texts.script.as_slice(),
+        texts.sources.texts.len() as u32,
+    ) {
         Ok(script) => script,
         Err(refusal) => return Err(refusal),
     };

@@ -83,8 +83,8 @@ pub fn read_texts<F: Files>(
     line: BatchLine<'_>,
     files: &mut F,
 ) -> Result<BatchTexts, Refusal>
-    ensures texts { IfOk result (λ texts. AreReadTexts (F.told files.old) (batch_meant line) texts.script texts.sources) }
-    ensures refused { IfErr result (λ refusal. RefusesGroups (F.told files.old) (file_groups (batch_meant line)) (Failed (F.faults files.old) (F.faults files.new)) refusal) }
+    ensures texts { IfOk result (λ texts. AreReadTexts (F.told files.old) (batch_meant line.entry) texts.script texts.sources) }
+    ensures refused { IfErr result (λ refusal. RefusesGroups (F.told files.old) (file_groups (batch_meant line.entry)) (Failed (F.faults files.old) (F.faults files.new)) refusal) }
     ensures told { F.told files.new ≡ F.told files.old }
 {
     let script = match read_one(alloc, line.script, files) {

@@ -1,11 +1,13 @@
-//! The program `tzlist`: its words are handed to `run_plain`, over the real files and standard output.
+//! The program `tzlist`: its words are handed to `run`, over the real files and standard output.
 #![tactic(auto)]
 
 use std::process::ExitCode;
 use std::rt::Env;
 use std::{env, io};
-use tz_cli::{Plain, Status, run_plain};
+use tz_cli::Status;
 use tz_io::{RealFiles, RealSink};
+use tz_run::OpenGate;
+use tz_top::run;
 
 /// The words of the command line, without the program's name.
 fn words(rt: &(impl Env + AllocGlobal)) -> io::Result<Vec<String>> {
@@ -25,8 +27,13 @@ fn main(rt: HostRuntime) -> ExitCode {
     };
     let mut files = RealFiles::new(&rt);
     let mut sink = RealSink::new(&rt);
-    match run_plain(&rt, rt.alloc(), words.as_slice(), &mut files, &mut sink) {
-        Plain::Done(status) => ExitCode::from(status.code()),
-        Plain::Shared => ExitCode::from(Status::Usage.code()),
-    }
+    let status = run(
+        &rt,
+        rt.alloc(),
+        words.as_slice(),
+        &mut files,
+        &mut sink,
+        &OpenGate,
+    );
+    ExitCode::from(status.code())
 }
