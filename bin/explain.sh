@@ -15,11 +15,6 @@ cell() {
     tables "$1" | awk -F ' *[|] *' -v number="$2" -v column="$3" '$2 == number { print $column; exit }'
 }
 
-# The words of a cause.
-cause_in_words() {
-    cell Cause "$1" 3
-}
-
 # The forms of all commands.
 forms() {
     tables Words | awk -F ' *[|] *' '$2 ~ /^`/ { gsub(/`/, "", $2); print "  tzlist " $2 }'
@@ -35,16 +30,25 @@ file_of() {
     printf '%s\n' "$1" | awk -F , -v file="$2" '{ print $(file + ($1 ~ /^=/ ? 1 : 0)) }'
 }
 
+# Tells what is wrong with a line of a file, and the line's own text.
+tell_line() {
+    printf '%s, line %s: %s\n' "$1" "$2" "$3"
+    [ -f "$1" ] && sed -n "${2}p;${2}q" -- "$1" | cut -c 1-120 | sed 's/^/    /'
+}
+
 # Tells a refused text: where it is refused, the line's own text, and what is wrong with it. The words follow the refusal's
 # own, `text LINE CAUSE`, `text LINE CAUSE in FILE` or `leaps LINE CAUSE`.
 explain_text() {
-    line=$2
-    cause=$3
     number=1
     [ "$#" -gt 4 ] && [ "$4" = in ] && number=$5
-    name=$(file_of "$text" "$number")
-    printf '%s, line %s: %s\n' "$name" "$line" "$(cause_in_words "$cause")"
-    [ -f "$name" ] && sed -n "${line}p;${line}q" -- "$name" | cut -c 1-120 | sed 's/^/    /'
+    named=$text
+    [ "$1" = leaps ] && named=$leaps
+    tell_line "$(file_of "$named" "$number")" "$2" "$(cell Cause "$3" 3)"
+}
+
+# The same of a script. The words follow `script LINE CAUSE`.
+explain_script() {
+    tell_line "$script" "$2" "$(cell 'Cause of a script' "$3" 3)"
 }
 
 # Explains a status other than 0, of the words that follow it.
@@ -59,7 +63,13 @@ explain() {
         ;;
     3)
         text=$2
+        leaps=$2
+        [ "$1" = batch ] && leaps=$4 text=$5
         explain_text $("$program" "$@" 2>/dev/null)
+        ;;
+    4)
+        script=$2
+        explain_script $("$program" "$@" 2>/dev/null)
         ;;
     *) printf 'tzlist: %s\n' "$(status_in_words "$status")" ;;
     esac
