@@ -1,5 +1,6 @@
 -- What is due of a batch, and which status is.
-use Rattle.std.proofs.Common.{◌≡◌, ℕ, ◌⊎◌, inl, inr, List, Option, Result, Ok, Err, Vec, refl, subst}
+use Rattle.std.proofs.Common.{◌≡◌, ℕ, ◌⊎◌, inl, inr, List, Option, Result, Ok, Err, Vec, refl, sym, ◌∙◌, subst}
+use Rattle.std.proofs.lemmas.Bool.{true≢false}
 use Rattle.std.specs.declared.alloc.Global.{Global}
 use Rattle.tz_version.specs.declared.sources.Sources.{Sources}
 use Rattle.tz_batch.specs.declared.outcome.Outcome.{Outcome}
@@ -15,10 +16,10 @@ use Rattle.tz_cli.specs.declared.refusal.Refusal.TheVariants as refusals
 use Rattle.tz_top.specs.Groups.{HoldsGroups, AnyFailed}
 use Rattle.tz_top.specs.Refusal.{RefusesGroups}
 use Rattle.tz_top.specs.BatchTexts.{file_groups, AreReadTexts}
-use Rattle.tz_top.specs.BatchAnswer.{BatchAnswers, IsBatchAnswer}
+use Rattle.tz_top.specs.BatchAnswer.{BatchAnswers, IsBatchAnswer, IsAcceptedBatch}
 use Rattle.tz_top.specs.Due.{IsOutcomeOf, IsBatchDue}
 use Rattle.tz_top.proofs.Groups.{same_groups, too_large_groups, some_group_failed}
-use Rattle.tz_top.proofs.Once.{batch_once, large_once}
+use Rattle.tz_top.proofs.Once.{batch_once, large_once, accepted_once}
 
 -- what is an answer over the texts that were read is due
 answer_due : (batch : BatchCommand) (told : Option FileContents) (failed : List ℕ → Type 0) (text : List ℕ) (sources : Sources) (status : Status) (line : List ℕ) → AreReadTexts told batch text sources → BatchAnswers batch.slots text sources status line → IsBatchDue batch told failed status line
@@ -78,3 +79,15 @@ one_batch_due batch told failed contents status other line printed are answer fi
     let same = same_groups told (file_groups batch) contents due.0 are due.1 in
     let here : IsBatchAnswer batch contents other printed = subst (λ (read : List (List (List ℕ))). IsBatchAnswer batch read other printed) same due.2 in
     inl (batch_once batch contents other status printed line here answer)
+
+-- where no read failed and the contents are accepted, 0 is due beside want of memory
+pub accepted_due : (batch : BatchCommand) (told : Option FileContents) (failed : List ℕ → Type 0) (contents : List (List (List ℕ))) (due : Status) (printed : List ℕ) → HoldsGroups told (file_groups batch) contents → IsAcceptedBatch batch contents → (AnyFailed failed (file_groups batch) → ⊥) → IsBatchDue batch told failed due printed → (due ≡ statuses.Ok) ⊎ (due ≡ statuses.Memory)
+accepted_due batch told failed contents statuses.Read printed are accepted fine due =
+    absurd (fine (some_group_failed told (file_groups batch) failed due.0))
+accepted_due batch told failed contents statuses.Memory printed are accepted fine due = inr refl
+accepted_due batch told failed contents statuses.TooLarge printed are accepted fine due =
+    absurd (true≢false (sym (too_large_groups told (file_groups batch) contents are due.0) ∙ accepted.few_bytes))
+accepted_due batch told failed contents other printed are accepted fine due =
+    let same = same_groups told (file_groups batch) contents due.0 are due.1 in
+    let here : IsBatchAnswer batch contents other printed = subst (λ (read : List (List (List ℕ))). IsBatchAnswer batch read other printed) same due.2 in
+    inl (accepted_once batch contents other printed accepted here)

@@ -6,6 +6,8 @@ use Rattle.std.specs.List.{concat}
 use Rattle.std.proofs.lemmas.Bool.{true≢false}
 use Rattle.tz_types.specs.Limit.{most_bytes}
 use Rattle.tz_types.specs.declared.source.Source.{Source}
+use Rattle.tz_script.specs.Script.{ReadsScript}
+use Rattle.tz_script.specs.declared.script.Script.{Script}
 use Rattle.tz_script.proofs.ScriptLaws.{not_both}
 use Rattle.tz_version.specs.Sources.{most_sources}
 use Rattle.tz_version.specs.declared.sources.Sources.{Sources}
@@ -18,7 +20,7 @@ use Rattle.tz_cli.specs.declared.status.Status.TheVariants as statuses
 use Rattle.tz_cli.proofs.Once.{same_source}
 use Rattle.tz_top.specs.Groups.{is_too_large}
 use Rattle.tz_top.specs.BatchTexts.{AreSourcesOf, AreTextsOf}
-use Rattle.tz_top.specs.BatchAnswer.{IsFirstRefusal, IsOpeningRefusal, BatchAnswers, AnswersOver, IsBatchAnswer}
+use Rattle.tz_top.specs.BatchAnswer.{IsFirstRefusal, IsOpeningRefusal, BatchAnswers, AnswersOver, IsBatchAnswer, IsAcceptedBatch}
 
 -- contents are those of one list of sources
 same_list : (texts : List NamedText) (contents : List (List (List ℕ))) (a b : List Source) → AreSourcesOf texts contents a → AreSourcesOf texts contents b → a ≡ b
@@ -117,4 +119,27 @@ batch_once batch contents r s line other a b =
             | inl large ↦ absurd (true≢false (sym large.1 ∙ over.few_bytes))
             | inr also ↦ over_once batch contents r s line other over also
           ]
+    ]
+
+-- where the script is read and a version is made of the first source, that is the status
+ok_alone : (slots : ℕ) (text : List ℕ) (sources : Sources) (script : Script) (r : Status) (line : List ℕ) → ReadsScript (length sources.texts) text script → IsAccepted sources 0 → BatchAnswers slots text sources r line → r ≡ statuses.Ok
+ok_alone slots text sources script statuses.Ok line reads opens a = refl
+ok_alone slots text sources script statuses.Script line reads opens a = absurd (not_both (length sources.texts) text script a.0 reads a.1)
+ok_alone slots text sources script statuses.Text line reads opens a = absurd (opens_or_not sources text line opens a)
+ok_alone slots text sources script r line reads opens a = absurd a
+
+over_accepted : (batch : BatchCommand) (contents : List (List (List ℕ))) (r : Status) (line : List ℕ) → IsAcceptedBatch batch contents → AnswersOver batch contents r line → r ≡ statuses.Ok
+over_accepted batch contents r line accepted a =
+    let texts = same_script batch contents a.text accepted.text a.sources accepted.sources a.are accepted.are in
+    let sources = same_sources batch contents a.text accepted.text a.sources accepted.sources a.are accepted.are in
+    let here = subst (λ (text : List ℕ). BatchAnswers batch.slots text a.sources r line) texts a.answers in
+    let there = subst (λ (sources : Sources). BatchAnswers batch.slots accepted.text sources r line) sources here in
+    ok_alone batch.slots accepted.text accepted.sources accepted.script r line accepted.reads accepted.opens there
+
+-- over contents that are accepted a batch has the status 0
+pub accepted_once : (batch : BatchCommand) (contents : List (List (List ℕ))) (r : Status) (line : List ℕ) → IsAcceptedBatch batch contents → IsBatchAnswer batch contents r line → r ≡ statuses.Ok
+accepted_once batch contents r line accepted a =
+    elim (sized batch contents r line a) [
+      | inl large ↦ absurd (true≢false (sym large.1 ∙ accepted.few_bytes))
+      | inr over ↦ over_accepted batch contents r line accepted over
     ]

@@ -64,3 +64,14 @@ abbrev pub IsBatchAnswer : BatchCommand → List (List (List ℕ)) → Status �
 IsBatchAnswer batch contents statuses.TooLarge line =
     IsTrue (is_too_large contents) × (line ≡ codes "toolarge\n")
 IsBatchAnswer batch contents status line = AnswersOver batch contents status line
+
+-- The contents, none of which are too large, are the text of a script that is read, and sources of the first of which a
+-- version is made.
+pub record IsAcceptedBatch (batch : BatchCommand) (contents : List (List (List ℕ))) : Type 0 where
+  pub few_bytes : IsFalse (is_too_large contents)
+  pub text : List ℕ
+  pub sources : Sources
+  pub are : AreTextsOf batch contents text sources
+  pub script : Script
+  pub reads : ReadsScript (length sources.texts) text script
+  pub opens : IsAccepted sources 0

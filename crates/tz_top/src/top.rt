@@ -11,7 +11,7 @@ ghost use Rattle.tz_cli.specs.Outcome.{Holds, Failed};
 ghost use Rattle.tz_cli.specs.declared.status.Status.{Status as DeclaredStatus};
 ghost use Rattle.tz_top.specs.Groups.{HoldsGroups, AnyFailed};
 ghost use Rattle.tz_top.specs.BatchTexts.{file_groups};
-ghost use Rattle.tz_top.specs.BatchAnswer.{IsBatchAnswer};
+ghost use Rattle.tz_top.specs.BatchAnswer.{IsBatchAnswer, IsAcceptedBatch};
 ghost use Rattle.tz_top.specs.Due.{IsOutcomeOf, IsDueOfAny};
 
 use crate::batch::run_batch;
@@ -66,6 +66,13 @@ pub fn run<F: Files, S: Sink, G: Gate>(
         ¬ (AnyFailed (Failed (F.faults files.old) (F.faults files.new)) (file_groups batch)) →
         ¬ (Rose (S.faults sink.old) (S.faults sink.new)) → ¬ (Rose (S.stalls sink.old) (S.stalls sink.new)) →
         (result ≡ status) ⊎ (result ≡ Status.Memory) }
+    // A batch whose script is read, and of whose first text a version is made, has the status 0 there.
+    ensures complete { (batch : BatchCommand) (contents : List (List (List ℕ))) →
+        IsBatchCommand (words_of words.now) batch → HoldsGroups (F.told files.old) (file_groups batch) contents →
+        IsAcceptedBatch batch contents →
+        ¬ (AnyFailed (Failed (F.faults files.old) (F.faults files.new)) (file_groups batch)) →
+        ¬ (Rose (S.faults sink.old) (S.faults sink.new)) → ¬ (Rose (S.stalls sink.old) (S.stalls sink.new)) →
+        (result ≡ Status.Ok) ⊎ (result ≡ Status.Memory) }
     ensures exact { (command : Command) (contents : List (List ℕ)) (status : DeclaredStatus) (line : List ℕ) →
         IsCommand (words_of words.now) command → AllZip (Holds (F.told files.old)) (files_of command) contents →
         IsAnswer command contents status line →

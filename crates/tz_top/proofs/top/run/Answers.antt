@@ -8,7 +8,7 @@ use Rattle.tz_cli.specs.declared.status.Status.{Status}
 use Rattle.tz_cli.specs.declared.status.Status.TheVariants as statuses
 use Rattle.tz_cli.proofs.BatchWords.{one_batch}
 use Rattle.tz_top.specs.Due.{IsBatchDue}
-use Rattle.tz_top.proofs.Due.{due_since, outcome_due, one_batch_due}
+use Rattle.tz_top.proofs.Due.{due_since, outcome_due, one_batch_due, accepted_due}
 use Rattle.tz_top.proofs.top.run.Goals as goal
 
 pub unreachable-requires : goal.unreachable-requires
@@ -72,3 +72,19 @@ returns-in-Some-clause-exact_batch g c = λ batch contents status line is holds 
     let same : meant ≡ batch = one_batch (words_of c.args.words.now) meant batch c.in-Some.ensures.some is in
     let due_of : IsBatchDue batch told (Failed before after) c.run_batch.result whole.0 = subst (λ (it : BatchCommand). IsBatchDue it told (Failed before after) c.run_batch.result whole.0) same due in
     one_batch_due batch told (Failed before after) contents status c.run_batch.result line whole.0 holds answer fine due_of
+
+pub returns-in-Some-clause-complete : goal.returns-in-Some-clause-complete
+returns-in-Some-clause-complete g c = λ batch contents is holds accepted fine no_fault no_stall.
+    let told = g.F.Files.told c.args.files.now in
+    let before = g.F.Files.faults c.args.files.now in
+    let here = g.F.Files.faults c.run_plain.new.files in
+    let after = g.F.Files.faults c.run_batch.new.files in
+    let meant = batch_meant c.in-Some.line in
+    let untouched = c.run_plain.ensures.unwritten c.in-Shared.is in
+    let no_fault_since : ¬ (Rose (g.S.Sink.faults c.run_plain.new.sink) (g.S.Sink.faults c.run_batch.new.sink)) = λ rose. no_fault (subst (λ (count : ℕ). Rose count (g.S.Sink.faults c.run_batch.new.sink)) untouched.1 rose) in
+    let no_stall_since : ¬ (Rose (g.S.Sink.stalls c.run_plain.new.sink) (g.S.Sink.stalls c.run_batch.new.sink)) = λ rose. no_stall (subst (λ (count : ℕ). Rose count (g.S.Sink.stalls c.run_batch.new.sink)) untouched.2 rose) in
+    let whole = c.run_batch.ensures.whole (λ write. ⊎_elim no_fault_since no_stall_since (c.run_batch.ensures.write write)) in
+    let due = due_since meant told (g.F.Files.told c.run_plain.new.files) before here after c.run_batch.result whole.0 c.run_plain.ensures.told (c.run_plain.ensures.unread c.in-Shared.is) whole.1 in
+    let same : meant ≡ batch = one_batch (words_of c.args.words.now) meant batch c.in-Some.ensures.some is in
+    let due_of : IsBatchDue batch told (Failed before after) c.run_batch.result whole.0 = subst (λ (it : BatchCommand). IsBatchDue it told (Failed before after) c.run_batch.result whole.0) same due in
+    accepted_due batch told (Failed before after) contents c.run_batch.result whole.0 holds accepted fine due_of
