@@ -24,16 +24,7 @@ impl fmt::Display for ReadError {
     fn fmt<W: fmt::Write>(&self, f: &mut fmt::Formatter<W>) -> fmt::Result {
         match self {
             ReadError::NoMemory => f.write_str("memory ran out"),
-            ReadError::Fault(
-                Fault {
-                    file: 0,
-                    line,
-                    cause,
-                },
-            ) => write!(f, "line {line}, cause {cause}"),
-            ReadError::Fault(Fault { file, line, cause }) => {
-                write!(f, "file {file}, line {line}, cause {cause}")
-            }
+            ReadError::Fault(fault) => write!(f, "{fault}"),
         }
     }
 }

@@ -3,7 +3,7 @@ ghost use Rattle.tz_rules.specs.declared.error.BuildError.TheVariants as errors;
 
 use std::error::Error;
 use std::fmt;
-use tz_types::NoMemory;
+use tz_types::{Fault, NoMemory};
 
 /// Why no database was built.
 #[derive(Clone, Copy, Debug, PartialEq, Eq, Hash)]
@@ -22,7 +22,14 @@ impl fmt::Display for BuildError {
     fn fmt<W: fmt::Write>(&self, f: &mut fmt::Formatter<W>) -> fmt::Result {
         match self {
             BuildError::NoMemory => f.write_str("memory ran out"),
-            BuildError::Fault { line, cause } => write!(f, "line {line}, cause {cause}"),
+            BuildError::Fault { line, cause } => {
+                let fault = Fault {
+                    file: 0,
+                    line: *line,
+                    cause: *cause,
+                };
+                write!(f, "{fault}")
+            }
         }
     }
 }

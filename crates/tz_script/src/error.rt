@@ -1,4 +1,5 @@
 //! Why a script isn't read.
+use crate::ScriptCause;
 use std::error::Error;
 use std::fmt;
 use tz_types::{LineFault, NoMemory};
@@ -19,9 +20,10 @@ impl fmt::Display for ScriptError {
     fn fmt<W: fmt::Write>(&self, f: &mut fmt::Formatter<W>) -> fmt::Result {
         match self {
             ScriptError::NoMemory => f.write_str("memory ran out"),
-            ScriptError::Fault(LineFault { line, cause }) => {
-                write!(f, "line {line}, cause {cause}")
-            }
+            ScriptError::Fault(LineFault { line, cause }) => match ScriptCause::of_number(*cause) {
+                None => write!(f, "line {line}, cause {cause}"),
+                Some(why) => write!(f, "line {line}, cause {cause}: {why}"),
+            },
         }
     }
 }

@@ -9,4 +9,5 @@ pub mod Order
 pub mod Limit
 pub mod Source
 pub mod Cause
+pub mod Fault
 pub mod Leap

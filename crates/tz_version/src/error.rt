@@ -4,7 +4,6 @@ ghost use Rattle.tz_version.specs.declared.error.MakeError.TheVariants as make_e
 
 use std::error::Error;
 use std::fmt;
-use tz_lines::ReadError;
 use tz_types::{Fault, NoMemory};
 
 /// Why a version isn't made. The leap text is read first: where it is refused, nothing is said of the source.
@@ -26,8 +25,8 @@ impl fmt::Display for MakeError {
     fn fmt<W: fmt::Write>(&self, f: &mut fmt::Formatter<W>) -> fmt::Result {
         match self {
             MakeError::NoMemory => f.write_str("memory ran out"),
-            MakeError::Leaps(fault) => write!(f, "leap text: {}", ReadError::Fault(*fault)),
-            MakeError::Text(fault) => write!(f, "{}", ReadError::Fault(*fault)),
+            MakeError::Leaps(fault) => write!(f, "leap text: {fault}"),
+            MakeError::Text(fault) => write!(f, "{fault}"),
         }
     }
 }
