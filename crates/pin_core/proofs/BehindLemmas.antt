@@ -1,11 +1,11 @@
 -- The version behind another in the list.
 use Rattle.std.proofs.Common.{◌≡◌, ℕ, zero, suc, ◌<◌, ◌≤◌, true, false, not, eqb, ltb, List, [], ◌∷◌, length, map, filter, get_or, remove, refl, sym, ap, ◌∙◌, subst, arith}
 use Rattle.std.proofs.lemmas.Bool.{cond-true, cond-false, ne_eqb, eq-eqb, lt-ltb, le-ltb, not_from_false, not_from_true}
-use Rattle.pin_core.specs.Replay.{Edition, greatest, greatest_below}
+use Rattle.pin_core.specs.Replay.{Edition, greatest_number, greatest_below}
 use Rattle.pin_core.proofs.ListLemmas.{Stands, greatest_less}
 
--- all of them lie below the bound, and the first is the greatest
-pub greatest_bounded : (bound : ℕ) (kept : List ℕ) (es : List Edition) → 0 < bound → Stands bound kept es → greatest (map (λ edition. edition.n) es) < bound
+-- all of them lie below the bound, and the first is the greatest_number
+pub greatest_bounded : (bound : ℕ) (kept : List ℕ) (es : List Edition) → 0 < bound → Stands bound kept es → greatest_number (map (λ edition. edition.n) es) < bound
 greatest_bounded bound kept [] positive stands = positive
 greatest_bounded bound kept (e ∷ es) positive stands =
     omega (arith, greatest_bounded e.n kept es stands.0 stands.4, stands.1)
@@ -17,14 +17,14 @@ all_below bound top kept (e ∷ es) stands low =
     cond-true (ltb e.n top) (e.n ∷ filter (λ other. ltb other top) (map (λ edition. edition.n) es)) (filter (λ other. ltb other top) (map (λ edition. edition.n) es)) (lt-ltb e.n top (omega (arith, stands.1, low)))
     ∙ ap (λ ns. e.n ∷ ns) rest
 
-below_first : (bound : ℕ) (kept : List ℕ) (e : Edition) (es : List Edition) → Stands bound kept (e ∷ es) → greatest_below e.n (e ∷ es) ≡ greatest (map (λ edition. edition.n) es)
+below_first : (bound : ℕ) (kept : List ℕ) (e : Edition) (es : List Edition) → Stands bound kept (e ∷ es) → greatest_below e.n (e ∷ es) ≡ greatest_number (map (λ edition. edition.n) es)
 below_first bound kept e es stands =
-    ap greatest (cond-false (ltb e.n e.n) (e.n ∷ filter (λ other. ltb other e.n) (map (λ edition. edition.n) es)) (filter (λ other. ltb other e.n) (map (λ edition. edition.n) es)) (le-ltb e.n e.n (omega arith))
+    ap greatest_number (cond-false (ltb e.n e.n) (e.n ∷ filter (λ other. ltb other e.n) (map (λ edition. edition.n) es)) (filter (λ other. ltb other e.n) (map (λ edition. edition.n) es)) (le-ltb e.n e.n (omega arith))
     ∙ all_below e.n e.n kept es stands.4 (omega arith))
 
 below_later : (top : ℕ) (e : Edition) (es : List Edition) → top ≤ e.n → greatest_below top (e ∷ es) ≡ greatest_below top es
 below_later top e es low =
-    ap greatest (cond-false (ltb e.n top) (e.n ∷ filter (λ other. ltb other top) (map (λ edition. edition.n) es)) (filter (λ other. ltb other top) (map (λ edition. edition.n) es)) (le-ltb e.n top low))
+    ap greatest_number (cond-false (ltb e.n top) (e.n ∷ filter (λ other. ltb other top) (map (λ edition. edition.n) es)) (filter (λ other. ltb other top) (map (λ edition. edition.n) es)) (le-ltb e.n top low))
 
 -- those below a number aren't it
 lower_stay : (bound gone : ℕ) (kept : List ℕ) (es : List Edition) → Stands bound kept es → bound ≤ gone → filter (λ edition. not (eqb edition.n gone)) es ≡ es
@@ -67,7 +67,7 @@ behind bound top zero kept (e ∷ []) d stands within here =
     subst (λ number. greatest_below number (e ∷ []) ≡ 0) same (below_first bound kept e [] stands) in
     record { next = λ f short. absurd (omega arith); none = λ long. below; rest = λ short. absurd (omega arith) }
 behind bound top zero kept (e ∷ f ∷ fs) d stands within here =
-    let first : greatest (map (λ edition. edition.n) (f ∷ fs)) ≡ f.n =
+    let first : greatest_number (map (λ edition. edition.n) (f ∷ fs)) ≡ f.n =
     omega (arith, greatest_bounded f.n kept fs stands.4.0 stands.4.4) in
     let same : e.n ≡ top = here in
     let below : greatest_below top (e ∷ f ∷ fs) ≡ f.n =

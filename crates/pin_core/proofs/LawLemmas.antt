@@ -8,7 +8,7 @@ use Rattle.std.proofs.lemmas.List.Sums.{fold-append}
 use Rattle.pin_core.specs.declared.write.Change.{Change}
 use Rattle.pin_core.specs.declared.write.Change.TheVariants.{Push, Erase}
 use Rattle.pin_core.specs.declared.write.Write.{Write}
-use Rattle.pin_core.specs.Replay.{Edition, ListState, opening, front_of, is_listed, is_slot_listed, greatest, greatest_below, allowed, after_change, after_write, state_after, replays_from, replays}
+use Rattle.pin_core.specs.Replay.{Edition, ListState, opening, front_of, is_listed, is_slot_listed, greatest_number, greatest_below, allowed, after_change, after_write, state_after, replays_from, replays}
 use Rattle.pin_core.specs.Pushes.{pushed_by, pushes, erases, is_erased}
 use Rattle.pin_core.proofs.ListLemmas.{Stands, listed_below}
 use Rattle.pin_core.proofs.ReplayLemmas.{Orderly, EraseAsks, push_asks, erase_asks, change_orderly, replay_orderly, opening_orderly, replays_parts, gone_less}
@@ -203,14 +203,14 @@ greatest_listed number es some = found number es (greatest_below number es) refl
         ⊎_elim
         (λ (t : ltb e.n top ≡ true).
         let split : greatest_below top (e ∷ xs) ≡ max e.n (greatest_below top xs) =
-        ap greatest (cond-true (ltb e.n top) (e.n ∷ filter (λ other. ltb other top) (map (λ edition. edition.n) xs)) (filter (λ other. ltb other top) (map (λ edition. edition.n) xs)) t) in
+        ap greatest_number (cond-true (ltb e.n top) (e.n ∷ filter (λ other. ltb other top) (map (λ edition. edition.n) xs)) (filter (λ other. ltb other top) (map (λ edition. edition.n) xs)) t) in
         ⊎_elim
         (λ (lt : e.n < greatest_below top xs). or_right (eqb e.n g) (is_listed g xs) (found top xs g (omega (arith, split, is, lt)) positive))
         (λ (le : greatest_below top xs ≤ e.n). or_left (eqb e.n g) (is_listed g xs) (eq-eqb e.n g (omega (arith, split, is, le))))
         (cases_lt e.n (greatest_below top xs)))
         (λ (f : ltb e.n top ≡ false).
         let split : greatest_below top (e ∷ xs) ≡ greatest_below top xs =
-        ap greatest (cond-false (ltb e.n top) (e.n ∷ filter (λ other. ltb other top) (map (λ edition. edition.n) xs)) (filter (λ other. ltb other top) (map (λ edition. edition.n) xs)) f) in
+        ap greatest_number (cond-false (ltb e.n top) (e.n ∷ filter (λ other. ltb other top) (map (λ edition. edition.n) xs)) (filter (λ other. ltb other top) (map (λ edition. edition.n) xs)) f) in
         or_right (eqb e.n g) (is_listed g xs) (found top xs g (sym split ∙ is) positive))
         (cases_Bool (ltb e.n top))
 
@@ -225,13 +225,13 @@ greatest_above top e (x ∷ xs) has low =
     ⊎_elim
     (λ (t : ltb x.n top ≡ true).
     let split : greatest_below top (x ∷ xs) ≡ max x.n (greatest_below top xs) =
-    ap greatest (cond-true (ltb x.n top) (x.n ∷ filter (λ other. ltb other top) (map (λ edition. edition.n) xs)) (filter (λ other. ltb other top) (map (λ edition. edition.n) xs)) t) in
+    ap greatest_number (cond-true (ltb x.n top) (x.n ∷ filter (λ other. ltb other top) (map (λ edition. edition.n) xs)) (filter (λ other. ltb other top) (map (λ edition. edition.n) xs)) t) in
     ⊎_elim (λ (same : x ≡ e). omega (arith, split, ap (λ (y : Edition). y.n) same))
     (λ (later : Contains xs e). omega (arith, split, greatest_above top e xs later low))
     (contains_cases x e xs has))
     (λ (f : ltb x.n top ≡ false).
     let split : greatest_below top (x ∷ xs) ≡ greatest_below top xs =
-    ap greatest (cond-false (ltb x.n top) (x.n ∷ filter (λ other. ltb other top) (map (λ edition. edition.n) xs)) (filter (λ other. ltb other top) (map (λ edition. edition.n) xs)) f) in
+    ap greatest_number (cond-false (ltb x.n top) (x.n ∷ filter (λ other. ltb other top) (map (λ edition. edition.n) xs)) (filter (λ other. ltb other top) (map (λ edition. edition.n) xs)) f) in
     ⊎_elim (λ (same : x ≡ e). absurd (omega (arith, ltb-false x.n top f, ap (λ (y : Edition). y.n) same, low)))
     (λ (later : Contains xs e). omega (arith, split, greatest_above top e xs later low))
     (contains_cases x e xs has))

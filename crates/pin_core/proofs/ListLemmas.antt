@@ -2,7 +2,7 @@
 use Rattle.std.proofs.Common.{◌≡◌, ℕ, ◌<◌, ◌≤◌, Bool, true, false, ◌||◌, cond, eqb, ltb, List, [], ◌∷◌, length, filter, get_or, set, count_by, refl, ◌∙◌, ⊎_elim, arith, length-set, get_or-set_other}
 use Rattle.std.proofs.lemmas.Bool.{or_parts, or_cases, cond_both, cond-true, false≢true, eqb-false, eqb-true, ne_eqb, ltb-true, lt-ltb}
 use Rattle.std.proofs.lemmas.List.Sums.{sum_by-set, count_by-le-length}
-use Rattle.pin_core.specs.Replay.{Edition, is_listed, is_slot_listed, greatest}
+use Rattle.pin_core.specs.Replay.{Edition, is_listed, is_slot_listed, greatest_number}
 
 -- each of these editions stands in a slot that keeps its number, and the numbers fall from below the bound
 abbrev pub Stands : ℕ → List ℕ → List Edition → Type 0
@@ -68,10 +68,10 @@ listed_below bound number kept (e ∷ es) stands listed =
     (λ (h : is_listed number es ≡ true). let low = listed_below e.n number kept es stands.4 h in (low.0, omega (arith, low.1, stands.1)))
     (or_cases (eqb e.n number) (is_listed number es) listed)
 
--- the greatest of those below a number is below it
-pub greatest_less : (number : ℕ) (numbers : List ℕ) → 0 < number → greatest (filter (λ other. ltb other number) numbers) < number
+-- the greatest_number of those below a number is below it
+pub greatest_less : (number : ℕ) (numbers : List ℕ) → 0 < number → greatest_number (filter (λ other. ltb other number) numbers) < number
 greatest_less number [] positive = positive
 greatest_less number (n ∷ ns) positive =
     let rest = greatest_less number ns positive in
-    cond_both (ltb n number) (n ∷ filter (λ other. ltb other number) ns) (filter (λ other. ltb other number) ns) (λ xs. greatest xs < number)
+    cond_both (ltb n number) (n ∷ filter (λ other. ltb other number) ns) (filter (λ other. ltb other number) ns) (λ xs. greatest_number xs < number)
     (λ t. omega (arith, ltb-true n number t, rest)) (λ f. rest)

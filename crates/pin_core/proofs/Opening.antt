@@ -13,7 +13,7 @@ use Rattle.pin_core.specs.declared.view.View.{View}
 use Rattle.pin_core.specs.declared.view.Role.TheVariants as roles
 use Rattle.pin_core.specs.Replay.{opening}
 use Rattle.pin_core.specs.Core.{kept_number, number_at, count_at, one_if, times, total, has_number, number_count, is_main, has_turn, pins_at, allowance_of, spent, EachSeat}
-use Rattle.pin_core.specs.Lawful.{Lawful, IsKept, WasFront, WasFrontOnce}
+use Rattle.pin_core.specs.Lawful.{Lawful, KeepsEntry, WasFront, WasFrontOnce}
 use Rattle.pin_core.specs.Step.{main_at_first, opening_state, reader_at_first, opening_with_readers}
 use Rattle.pin_core.proofs.Words.{count_here, count_else, number_here, number_else}
 use Rattle.pin_core.proofs.KeptLemmas.{opening_first, opening_others}
@@ -73,7 +73,7 @@ opens slots readers room some_slot =
     let inside : All (λ n. n < readers) (range_with_len 0 readers) = λ k d low. (let long = length-range_with_len 0 readers in let at = get_or-range_with_len 0 readers k d (omega arith) in omega arith) in
     record {
       pins = λ slot low. no_count slots slot some_slot;
-      handles = each_one _ v (All-nil (IsKept slots [] (number_at (set (replicate slots empty) 0 first))));
+      handles = each_one _ v (All-nil (KeepsEntry slots [] (number_at (set (replicate slots empty) 0 first))));
       follows = record {
         some_slot = some_slot;
         replay = refl;
@@ -155,7 +155,7 @@ opens_with_readers slots readers writes some_slot =
     let main : View = record spent { role = roles.Main } in
     record {
       pins = λ slot low. (let none = none_out writes (pins_at slot) 0 readers (λ n. refl) in let count = no_count slots slot some_slot in omega arith);
-      handles = each_with_out writes _ main readers (All-nil (IsKept slots [] (number_at (set (replicate slots empty) 0 first)))) (λ n low. All-nil (IsKept slots [] (number_at (set (replicate slots empty) 0 first))));
+      handles = each_with_out writes _ main readers (All-nil (KeepsEntry slots [] (number_at (set (replicate slots empty) 0 first)))) (λ n low. All-nil (KeepsEntry slots [] (number_at (set (replicate slots empty) 0 first))));
       follows = record {
         some_slot = some_slot;
         replay = refl;

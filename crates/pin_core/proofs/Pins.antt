@@ -11,7 +11,7 @@ use Rattle.pin_core.specs.declared.entry.SlotWord.{SlotWord}
 use Rattle.pin_core.specs.declared.write.Write.{Write}
 use Rattle.pin_core.specs.declared.view.View.{View}
 use Rattle.pin_core.specs.Core.{CoreState, front_number, front_slot, number_at, count_at, total, one_if, pins_at, has_claimed, has_turn, allowance_of}
-use Rattle.pin_core.specs.Lawful.{Lawful, IsKept, WasFront, HasOneTurn, KeepsHandles}
+use Rattle.pin_core.specs.Lawful.{Lawful, KeepsEntry, WasFront, HasOneTurn, KeepsHandles}
 use Rattle.pin_core.specs.Step.{HasReader, MayPin, MayTake, new_entry, pinned, with_count, add_pin, unpinned, take_pin}
 use Rattle.pin_core.proofs.Sums.{total_kept, total-set, total-append, total-remove, term_le}
 use Rattle.pin_core.proofs.Journals.{front_slot_inside, replays_take}
@@ -51,7 +51,7 @@ pins s id number v h has may =
           (λ (n : j ≢ slot). let zero = ap one_if (ne_eqb slot j (λ e. n (sym e))) in let now = count_else s.words slot record { number = number_at s.words slot; count = count } j n in omega arith) (cases_eq j slot);
       spent = spent_kept s.views id w live h.spent;
       handles = each_set (KeepsHandles s.slots s.journal (number_at words)) s.views id w
-          (subst (λ f. KeepsHandles s.slots s.journal f w) shown (All-push (IsKept s.slots s.journal (number_at s.words)) v.entries new (h.handles id v here live)
+          (subst (λ f. KeepsHandles s.slots s.journal f w) shown (All-push (KeepsEntry s.slots s.journal (number_at s.words)) v.entries new (h.handles id v here live)
           (λ held. eqb-true (number_at s.words slot) (front_number s.slots v.seen) held ∙ ap (front_number s.slots) (sym journal_is))))
           (λ j u _ there lives. subst (λ f. KeepsHandles s.slots s.journal f u) shown (h.handles j u there lives));
       follows = record {
@@ -119,7 +119,7 @@ unpins s id number v at e h has may =
           (λ (n : j ≢ slot). let zero = ap one_if (ne_eqb slot j (λ c. n (sym c))) in let now = count_else s.words slot record { number = number_at s.words slot; count = count } j n in omega arith) (cases_eq j slot);
       spent = spent_kept s.views id w live h.spent;
       handles = each_set (KeepsHandles s.slots s.journal (number_at words)) s.views id w
-          (subst (λ f. KeepsHandles s.slots s.journal f w) shown (All-remove (IsKept s.slots s.journal (number_at s.words)) v.entries at (h.handles id v here live)))
+          (subst (λ f. KeepsHandles s.slots s.journal f w) shown (All-remove (KeepsEntry s.slots s.journal (number_at s.words)) v.entries at (h.handles id v here live)))
           (λ j u _ there lives. subst (λ f. KeepsHandles s.slots s.journal f u) shown (h.handles j u there lives));
       follows = record {
         some_slot = some;

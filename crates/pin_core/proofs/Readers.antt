@@ -11,9 +11,9 @@ use Rattle.pin_core.specs.declared.entry.Entry.{Entry}
 use Rattle.pin_core.specs.declared.write.Write.{Write}
 use Rattle.pin_core.specs.declared.view.View.{View}
 use Rattle.pin_core.specs.declared.view.Role.TheVariants as roles
-use Rattle.pin_core.specs.Sequence.{writes_by, counts_from, IsCounted}
+use Rattle.pin_core.specs.Sequence.{writes_by, counts_from, AreCounted}
 use Rattle.pin_core.specs.Core.{CoreState, front_number, front_slot, kept_number, is_taken, number_at, count_at, total, one_if, pins_at, claims, has_claimed, has_turn, allowance_of}
-use Rattle.pin_core.specs.Lawful.{Lawful, IsKept, WasFront, entry_number}
+use Rattle.pin_core.specs.Lawful.{Lawful, KeepsEntry, WasFront, entry_number}
 use Rattle.pin_core.specs.Step.{HasReader, claim, claim_slot, miss_slot}
 use Rattle.pin_core.proofs.Sums.{total_some, total_none, term_le}
 use Rattle.pin_core.proofs.Journals.{replays_take, front_slot_inside, front_kept, front_taken, kept_le, kept_rises}
@@ -67,7 +67,7 @@ module _ (s : CoreState) (h : Lawful s) (id number : ℕ) (v : View) (has : HasR
 
   module _ (held : e.held ≡ true) where
     kept : number_at s.words e.slot ≡ entry_number s.slots s.journal e
-    kept = All-contains (IsKept s.slots s.journal (number_at s.words)) v.entries e (h.handles id v has.here (is_live number v has.reader)) among held
+    kept = All-contains (KeepsEntry s.slots s.journal (number_at s.words)) v.entries e (h.handles id v has.here (is_live number v has.reader)) among held
 
     -- the number of the slot at the handle's position
     at_position : kept_number s.slots (take e.position s.journal) e.slot ≡ entry_number s.slots s.journal e
@@ -163,7 +163,7 @@ more_by number (y ∷ ys) (suc place) (suc later) x less there by =
     let one = ap (λ (l : List Write). length l) (cond-false (y.by == number) (y ∷ writes_by number (take place ys)) (writes_by number (take place ys)) else) in
     let two = ap (λ (l : List Write). length l) (cond-false (y.by == number) (y ∷ writes_by number (take later ys)) (writes_by number (take later ys)) else) in omega arith) (cases_Bool (y.by == number))
 
-later_counts_more : (journal : List Write) → IsCounted journal → (place later : ℕ) (x y : Write) → place < later → slice_get journal place ≡ Some x → slice_get journal later ≡ Some y → x.by ≡ y.by → x.seq < y.seq
+later_counts_more : (journal : List Write) → AreCounted journal → (place later : ℕ) (x y : Write) → place < later → slice_get journal place ≡ Some x → slice_get journal later ≡ Some y → x.by ≡ y.by → x.seq < y.seq
 later_counts_more journal counted place later x y less here there by =
     let first = seq_at y.by 0 journal place x (counted y.by) here by in let second = seq_at y.by 0 journal later y (counted y.by) there refl in
     let more = more_by y.by journal place later x less here by in omega arith

@@ -5,7 +5,7 @@ use Rattle.std.proofs.lemmas.List.Sums.{length-filter, count_by-le-length}
 use Rattle.std.proofs.lemmas.List.Elements.{filter-append}
 use Rattle.pin_core.specs.declared.write.Write.{Write}
 use Rattle.pin_core.specs.declared.limits.TheConstants.{READER_NUMBERS}
-use Rattle.pin_core.specs.Sequence.{writes_by, next_seq, counts_from, IsCounted}
+use Rattle.pin_core.specs.Sequence.{writes_by, next_seq, counts_from, AreCounted}
 use Rattle.pin_core.specs.Journal.{IsTally}
 
 -- no more writes are by a number than there are
@@ -36,7 +36,7 @@ counts_push before (first ∷ later) write counted next =
     (counts_push (before + 1) later write parts.1 (omega (arith, next)))
 
 -- a write that bears its number's next count
-pub counted_push : (writes : List Write) (write : Write) → IsCounted writes → write.seq ≡ next_seq write.by writes → IsCounted (writes ++ write ∷ [])
+pub counted_push : (writes : List Write) (write : Write) → AreCounted writes → write.seq ≡ next_seq write.by writes → AreCounted (writes ++ write ∷ [])
 counted_push writes write counted next number =
     ⊎_elim
     (λ (same : write.by ≡ number).

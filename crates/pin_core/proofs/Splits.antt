@@ -12,7 +12,7 @@ use Rattle.pin_core.specs.declared.view.Role.{Role}
 use Rattle.pin_core.specs.declared.view.Role.TheVariants as roles
 use Rattle.pin_core.specs.Sequence.{writes_by}
 use Rattle.pin_core.specs.Core.{CoreState, number_at, total, one_if, times, has_number, number_count, is_main, mains, pins_at, has_claimed, has_turn, allowance_of, EachSeat}
-use Rattle.pin_core.specs.Lawful.{Lawful, IsKept, WasFront, WasFrontOnce, KnowsPlaces}
+use Rattle.pin_core.specs.Lawful.{Lawful, KeepsEntry, WasFront, WasFrontOnce, KnowsPlaces}
 use Rattle.pin_core.specs.Step.{MaySplit, floor_after, left_over, split_off, split}
 use Rattle.pin_core.proofs.Sums.{at_set, at_push, total-set, total-append, terms_le}
 use Rattle.pin_core.proofs.Stores.{all_pass}
@@ -110,7 +110,7 @@ splits s id v number writes h here may =
       spent = λ j u at spent. ⊎_elim
           (λ (old : get_elem? (set s.views id left) j ≡ some u). ⊎_elim (λ (x : (j ≡ id) × (left ≡ u)). absurd (live (ap (λ (y : View). y.role) x.1 ∙ spent))) (λ (x : (j ≢ id) × (get_elem? s.views j ≡ some u)). h.spent j u x.1 spent) (at_set s.views id j left u old))
           (λ (new : right ≡ u). let role = ap (λ (y : View). y.role) new in absurd (cc)) (at_push (set s.views id left) right u j at);
-      handles = each_split _ s.views id left right (h.handles id v here live) (All-nil (IsKept s.slots s.journal (number_at s.words))) (λ j u _ there. h.handles j u there);
+      handles = each_split _ s.views id left right (h.handles id v here live) (All-nil (KeepsEntry s.slots s.journal (number_at s.words))) (λ j u _ there. h.handles j u there);
       follows = record {
         some_slot = h.follows.some_slot;
         replay = h.follows.replay;

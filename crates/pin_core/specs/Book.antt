@@ -4,7 +4,7 @@ use Rattle.pin_core.specs.declared.write.Write.{Write}
 use Rattle.pin_core.specs.declared.listed.Listed.{Listed}
 use Rattle.pin_core.specs.Replay.{ListState, state_after, replays}
 use Rattle.pin_core.specs.Pushes.{pushes}
-use Rattle.pin_core.specs.Sequence.{IsCounted}
+use Rattle.pin_core.specs.Sequence.{AreCounted}
 use Rattle.pin_core.specs.Names.{with_names}
 use Rattle.pin_core.specs.Standing.{Rows}
 use Rattle.pin_core.specs.declared.limits.TheConstants.{FEWEST_SLOTS, MOST_SLOTS, MOST_WRITES}
@@ -29,7 +29,7 @@ rows_of book = with_names book.names (list_of book).listed
 -- has a name
 pub record IsBook (book : Chronicle) : Type 0 where
   pub replay : IsTrue (replays book.slots book.journal)
-  pub count : IsCounted book.journal
+  pub count : AreCounted book.journal
   pub within : length book.journal ≤ book.room
   pub names : length book.names ≡ length (pushes book.journal) + 1
 

@@ -8,7 +8,7 @@ use Rattle.pin_core.specs.declared.entry.Entry.{Entry}
 use Rattle.pin_core.specs.declared.view.View.{View}
 use Rattle.pin_core.specs.declared.view.Role.TheVariants as roles
 use Rattle.pin_core.specs.Replay.{replays}
-use Rattle.pin_core.specs.Sequence.{writes_by, IsCounted}
+use Rattle.pin_core.specs.Sequence.{writes_by, AreCounted}
 use Rattle.pin_core.specs.Core.{CoreState, front_number, front_slot, kept_number, is_taken, number_at, count_at, one_if, total, pins_at, held_at, has_number, number_count, has_turn, has_claimed, is_main, allowance_of, spent, EachSeat}
 
 -- ---- (a) the pins ----
@@ -24,12 +24,12 @@ abbrev pub entry_number : ℕ → List Write → Entry → ℕ
 entry_number slots journal e = front_number slots (take e.position journal)
 
 -- a held entry's number is the number that its slot's word shows
-abbrev pub IsKept : ℕ → List Write → (ℕ → ℕ) → Entry → Type 0
-IsKept slots journal shown e = e.held ≡ true → shown e.slot ≡ entry_number slots journal e
+abbrev pub KeepsEntry : ℕ → List Write → (ℕ → ℕ) → Entry → Type 0
+KeepsEntry slots journal shown e = e.held ≡ true → shown e.slot ≡ entry_number slots journal e
 
 -- the same for each entry of the seat
 abbrev pub KeepsHandles : ℕ → List Write → (ℕ → ℕ) → View → Type 0
-KeepsHandles slots journal shown v = All (IsKept slots journal shown) v.entries
+KeepsHandles slots journal shown v = All (KeepsEntry slots journal shown) v.entries
 
 -- ---- (c) the journal ----
 
@@ -80,7 +80,7 @@ pub record HasOneOwner (readers : ℕ) (journal : List Write) (views : List View
   pub whole : total number_count views ≡ readers
   pub main : total is_main views ≡ 1
   pub writers : All (λ (write : Write). write.by < readers) journal
-  pub counted : IsCounted journal
+  pub counted : AreCounted journal
   pub each : EachSeat (KnowsWrites readers journal) views
 
 -- ---- (f) the positions ----

@@ -35,17 +35,17 @@ is_listed number listed = list_any (λ edition. edition.n == number) listed
 abbrev pub is_slot_listed : ℕ → List Edition → Bool
 is_slot_listed slot listed = list_any (λ edition. edition.slot == slot) listed
 
--- the greatest of these numbers, or 0 where there is none
-abbrev pub greatest : List ℕ → ℕ
-greatest [] = 0
-greatest (number ∷ numbers) = max number (greatest numbers)
+-- the greatest_number of these numbers, or 0 where there is none
+abbrev pub greatest_number : List ℕ → ℕ
+greatest_number [] = 0
+greatest_number (number ∷ numbers) = max number (greatest_number numbers)
 
--- the greatest listed number below this one, or 0 where there is none
+-- the greatest_number listed number below this one, or 0 where there is none
 abbrev pub greatest_below : ℕ → List Edition → ℕ
-greatest_below number listed = greatest (filter (λ other. nat_lt other number) (map (λ edition. edition.n) listed))
+greatest_below number listed = greatest_number (filter (λ other. nat_lt other number) (map (λ edition. edition.n) listed))
 
 -- a push is allowed with the number after the front's, into a slot of the list that isn't listed; an erase is
--- allowed after a listed version, of the greatest listed number below it
+-- allowed after a listed version, of the greatest_number listed number below it
 abbrev pub allowed : ListState → Change → Bool
 allowed state (Push n src slot) =
     (n == (front_of state.listed).n + 1) && nat_lt slot (length state.kept) && not (is_slot_listed slot state.listed)

@@ -16,5 +16,5 @@ counts_from before [] = true
 counts_from before (write ∷ later) = (write.seq == before + 1) && counts_from (before + 1) later
 
 -- the writes of each number bear 1, 2, 3 .. in order
-abbrev pub IsCounted : List Write → Type 0
-IsCounted journal = (number : ℕ) → counts_from 0 (writes_by number journal) ≡ true
+abbrev pub AreCounted : List Write → Type 0
+AreCounted journal = (number : ℕ) → counts_from 0 (writes_by number journal) ≡ true

@@ -1,10 +1,10 @@
 -- Versions that are listed, as a course keeps them at hand.
 use Rattle.std.proofs.Common.{◌≡◌, ℕ, List, [], ◌∷◌, map, filter, fold, max, cond, true, false, not, eqb, ltb, ◌||◌, refl, ap, arith}
-use Rattle.pin_core.specs.Replay.{Edition, greatest, greatest_below, is_listed, is_slot_listed}
+use Rattle.pin_core.specs.Replay.{Edition, greatest_number, greatest_below, is_listed, is_slot_listed}
 use Rattle.pin_schedule.specs.declared.placed.Placed.{Placed}
 use Rattle.pin_schedule.specs.Progress.{placed_of, greatest_under, is_placed, is_numbered, without}
 
-pub fold_greatest : (most : ℕ) (numbers : List ℕ) → fold (λ (a b : ℕ). max a b) most numbers ≡ max most (greatest numbers)
+pub fold_greatest : (most : ℕ) (numbers : List ℕ) → fold (λ (a b : ℕ). max a b) most numbers ≡ max most (greatest_number numbers)
 fold_greatest most [] = omega arith
 fold_greatest most (n ∷ ns) = let rest = fold_greatest (max most n) ns in omega (arith, rest)
 
@@ -21,7 +21,7 @@ number_placed number [] = refl
 number_placed number (e ∷ es) = ap (λ b. eqb e.n number || b) (number_placed number es)
 
 pub greatest_placed : (number : ℕ) (es : List Edition) → greatest_under number (map placed_of es) ≡ greatest_below number es
-greatest_placed number es = ap (λ (ns : List ℕ). greatest (filter (λ other. ltb other number) ns)) (numbers_placed es)
+greatest_placed number es = ap (λ (ns : List ℕ). greatest_number (filter (λ other. ltb other number) ns)) (numbers_placed es)
 
 pub without_placed : (gone : ℕ) (es : List Edition) → without gone (map placed_of es) ≡ map placed_of (filter (λ (e : Edition). not (eqb e.n gone)) es)
 without_placed gone [] = refl

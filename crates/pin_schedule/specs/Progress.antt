@@ -5,7 +5,7 @@ use Rattle.pin_core.specs.declared.entry.SlotWord.{SlotWord}
 use Rattle.pin_core.specs.declared.write.Write.{Write}
 use Rattle.pin_core.specs.declared.view.View.{View}
 use Rattle.pin_core.specs.declared.write.Change.{Change}
-use Rattle.pin_core.specs.Replay.{Edition, greatest, state_after}
+use Rattle.pin_core.specs.Replay.{Edition, greatest_number, state_after}
 use Rattle.pin_core.specs.Core.{CoreState, spent, front_number, front_slot}
 use Rattle.pin_core.specs.Lawful.{Lawful}
 use Rattle.pin_core.specs.Step.{HasReader}
@@ -83,9 +83,9 @@ with_write p reader write listed =
     let r = reader_at p reader in
     record (with_reader p reader (record r { seen = r.seen + 1; allowance = r.allowance - 1 })) { core = record (with_reader p reader (record r { seen = r.seen + 1; allowance = r.allowance - 1 })).core { journal = p.core.journal ++ write ∷ [] }; fronts = slice_set p.fronts reader (slice_index_or listed 0 record { n = 0; slot = 0 }); listed = listed }
 
--- the greatest number of these versions that is below this one, or 0
+-- the greatest_number number of these versions that is below this one, or 0
 abbrev pub greatest_under : ℕ → List Placed → ℕ
-greatest_under number listed = greatest (filter (λ other. nat_lt other number) (map (λ (row : Placed). row.n) listed))
+greatest_under number listed = greatest_number (filter (λ other. nat_lt other number) (map (λ (row : Placed). row.n) listed))
 
 -- a version in this slot is among these, or one of this number
 abbrev pub is_placed : ℕ → List Placed → Bool

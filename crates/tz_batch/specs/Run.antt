@@ -11,7 +11,7 @@ use Rattle.pin_core.specs.declared.write.Change.{Change}
 use Rattle.pin_core.specs.declared.write.Change.TheVariants.{Push, Erase}
 use Rattle.pin_core.specs.declared.write.Write.{Write}
 use Rattle.pin_core.specs.Replay.{replays}
-use Rattle.pin_core.specs.Sequence.{IsCounted}
+use Rattle.pin_core.specs.Sequence.{AreCounted}
 use Rattle.tz_batch.specs.Batch.{Batch, Answered, answered, list_at, start_of, position_before}
 use Rattle.tz_batch.specs.Answering.{IsRightReply}
 use Rattle.tz_batch.specs.PassedOver.{IsPassedOver, IsFull}
@@ -62,7 +62,7 @@ changes_by number w (write ∷ later) =
 pub record WritesAreReplies (batch : Batch) : Type 0 where
   pub same : (number : ℕ) → number < batch.lanes →
       changes_told batch (number + 1) ≡ changes_by number 1 batch.outcome.journal
-  pub counted : IsCounted batch.outcome.journal
+  pub counted : AreCounted batch.outcome.journal
   pub no_others : IsTrue (list_all (λ write. nat_lt write.by batch.lanes) batch.outcome.journal)
 
 -- ---- the replies ----

@@ -9,18 +9,18 @@ abbrev pub Entry : Type 0
 Entry = String Global × Vec ℕ Global
 
 -- Whether an entry has that name.
-abbrev pub is_named : List ℕ → Entry → Bool
-is_named name entry = bytes_eq (string_bytes entry.0) name
+abbrev pub is_entry_named : List ℕ → Entry → Bool
+is_entry_named name entry = bytes_eq (string_bytes entry.0) name
 
 -- The content of each name: that of the first entry of the name.
-abbrev pub contents_of : List Entry → List ℕ → Option (List ℕ)
-contents_of list name = option_map (λ entry. entry.1.items) (find (is_named name) list)
+abbrev pub entry_contents : List Entry → List ℕ → Option (List ℕ)
+entry_contents list name = option_map (λ entry. entry.1.items) (find (is_entry_named name) list)
 
 -- The place of the first entry of that name.
-abbrev pub place_in : List Entry → List ℕ → Option ℕ
-place_in list name = position (is_named name) list
+abbrev pub entry_place : List Entry → List ℕ → Option ℕ
+entry_place list name = position (is_entry_named name) list
 
 -- The count of the entry at a place, or that of all names with no entry.
-abbrev pub count_at : List ℕ → ℕ → Option ℕ → ℕ
-count_at counts others (Some place) = slice_index counts place
-count_at counts others None = others
+abbrev pub entry_count : List ℕ → ℕ → Option ℕ → ℕ
+entry_count counts others (Some place) = slice_index counts place
+entry_count counts others None = others

@@ -2,15 +2,15 @@
 use Rattle.std.specs.Prelude.{ℕ, List, Option, Bool}
 use Rattle.tz_io.specs.declared.memory_files.MemoryFiles.{MemoryFiles}
 use Rattle.tz_io.specs.Calls.{next_call, fails_at}
-use Rattle.tz_io.specs.Entries.{contents_of, place_in, count_at}
+use Rattle.tz_io.specs.Entries.{entry_contents, entry_place, entry_count}
 
 -- What the files of each name hold.
 abbrev pub files_contents : MemoryFiles → List ℕ → Option (List ℕ)
-files_contents files = contents_of files.list.items
+files_contents files = entry_contents files.list.items
 
 -- How often a read of a name has failed.
 abbrev pub files_faults : MemoryFiles → List ℕ → ℕ
-files_faults files name = count_at files.counts.items files.others (place_in files.list.items name)
+files_faults files name = entry_count files.counts.items files.others (entry_place files.list.items name)
 
 -- How many reads there were, up to the greatest that 64 bits hold.
 abbrev pub files_calls : MemoryFiles → ℕ
@@ -21,9 +21,9 @@ abbrev pub files_failing : MemoryFiles → List ℕ
 files_failing files = files.failing.items
 
 -- Whether the next read is one that fails.
-abbrev pub fails_next : MemoryFiles → Bool
-fails_next files = fails_at files.failing.items (next_call files.calls)
+abbrev pub read_fails_next : MemoryFiles → Bool
+read_fails_next files = fails_at files.failing.items (next_call files.calls)
 
 -- Where the first file of that name stands.
 abbrev pub files_place : MemoryFiles → List ℕ → Option ℕ
-files_place files name = place_in files.list.items name
+files_place files name = entry_place files.list.items name

@@ -24,8 +24,8 @@ abbrev pub sink_limits : MemorySink → ℕ × ℕ × List ℕ
 sink_limits sink = (sink.piece, sink.room, sink.failing.items)
 
 -- Whether the next write is one that fails.
-abbrev pub fails_next : MemorySink → Bool
-fails_next sink = fails_at sink.failing.items (next_call sink.calls)
+abbrev pub write_fails_next : MemorySink → Bool
+write_fails_next sink = fails_at sink.failing.items (next_call sink.calls)
 
 -- How much of a piece the next write takes where it does not fail: all that both limits leave.
 abbrev pub taken_next : MemorySink → List ℕ → ℕ

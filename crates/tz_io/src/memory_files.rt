@@ -1,5 +1,5 @@
 ghost use Rattle.std.specs.Prelude.{◌≡◌, ◌≢◌, ◌+◌, ◌-◌, ◌^◌, ◌≤◌, ◌<◌, ℕ, List, Option, Some, IfOk, OnOk, IfSome, IsErrOf, min, take, vec_len, length};
-ghost use Rattle.tz_io.specs.Entries.{contents_of, place_in, count_at};
+ghost use Rattle.tz_io.specs.Entries.{entry_contents, entry_place, entry_count};
 
 use crate::calls::is_failing;
 use crate::{FileError, Files};
@@ -27,7 +27,7 @@ impl MemoryFiles {
         list: Vec<(String, Vec<u8>)>,
         failing: Vec<u32>,
     ) -> Result<MemoryFiles, NoMemory>
-        ensures told { IfOk result (λ files. files_contents files ≡ contents_of list.items) }
+        ensures told { IfOk result (λ files. files_contents files ≡ entry_contents list.items) }
         ensures failing { IfOk result (λ files. files_failing files ≡ failing.items) }
         ensures calls { IfOk result (λ files. files_calls files ≡ 0) }
         ensures unharmed { IfOk result (λ files. (name : List ℕ) → files_faults files name ≡ 0) }
@@ -46,7 +46,7 @@ impl MemoryFiles {
 
 // Where the first entry of that name stands.
 fn place_of(list: &[(String, Vec<u8>)], name: &str) -> Option<usize>
-    ensures first { result ≡ place_in list.now name.now }
+    ensures first { result ≡ entry_place list.now name.now }
     ensures within { IfSome result (λ place. place < length list.now) }
 {
     list.iter().position(|(known, _)| known.as_str() == name)
@@ -55,9 +55,9 @@ fn place_of(list: &[(String, Vec<u8>)], name: &str) -> Option<usize>
 fn count_fault(counts: &mut [u64], others: &mut u64, place: Option<usize>)
     requires { IfSome place (λ at. at < length counts.old) }
     ensures len { length counts.new ≡ length counts.old }
-    ensures counted { count_at counts.new others.new place ≡ min (count_at counts.old others.old place + 1) (2 ^ 64 - 1) }
-    ensures alone { (other : Option ℕ) → other ≢ place → count_at counts.new others.new other ≡ count_at counts.old others.old other }
-    ensures later { (other : Option ℕ) → count_at counts.old others.old other ≤ count_at counts.new others.new other }
+    ensures counted { entry_count counts.new others.new place ≡ min (entry_count counts.old others.old place + 1) (2 ^ 64 - 1) }
+    ensures alone { (other : Option ℕ) → other ≢ place → entry_count counts.new others.new other ≡ entry_count counts.old others.old other }
+    ensures later { (other : Option ℕ) → entry_count counts.old others.old other ≤ entry_count counts.new others.new other }
 {
     match place {
         Some(place) => counts[place] = counts[place].saturating_add(1),
@@ -77,7 +77,7 @@ impl Files for MemoryFiles {
     ghost use Rattle.tz_io.specs.Calls.{next_call};
     ghost use Rattle.tz_io.specs.Counts.{Rose};
     ghost use Rattle.tz_io.specs.Files.{IsFront};
-    ghost use Rattle.tz_io.specs.MemoryFiles.{files_contents, files_faults, files_calls, files_failing, fails_next, files_place};
+    ghost use Rattle.tz_io.specs.MemoryFiles.{files_contents, files_faults, files_calls, files_failing, read_fails_next, files_place};
 
     ghost told = { λ files. Some (files_contents files) };
 
@@ -95,9 +95,9 @@ impl Files for MemoryFiles {
         ensures counted { IsErrOf result FileError.Failed → files_faults self.new name.now ≡ min (files_faults self.old name.now + 1) (2 ^ 64 - 1) }
         ensures hungry { IsErrOf result FileError.NoMemory → (other : List ℕ) → files_faults self.new other ≡ files_faults self.old other }
         ensures alone { (other : List ℕ) → files_place self.old other ≢ files_place self.old name.now → files_faults self.new other ≡ files_faults self.old other }
-        ensures fails { IsTrue (fails_next self.old) → IsErrOf result FileError.Failed }
+        ensures fails { IsTrue (read_fails_next self.old) → IsErrOf result FileError.Failed }
         ensures absent { IsNone (files_place self.old name.now) → IsErrOf result FileError.Failed }
-        ensures fails_only { IsErrOf result FileError.Failed → IsTrue (fails_next self.old) ⊎ IsNone (files_place self.old name.now) }
+        ensures fails_only { IsErrOf result FileError.Failed → IsTrue (read_fails_next self.old) ⊎ IsNone (files_place self.old name.now) }
         ensures calls { files_calls self.new ≡ next_call (files_calls self.old) }
         ensures failing { files_failing self.new ≡ files_failing self.old }
     {

@@ -61,7 +61,7 @@ impl Sink for MemorySink {
     ghost use Rattle.tz_io.specs.Calls.{next_call};
     ghost use Rattle.tz_io.specs.Counts.{Rose};
     ghost use Rattle.tz_io.specs.Sink.{Appends, part_taken};
-    ghost use Rattle.tz_io.specs.MemorySink.{sink_bytes, sink_calls, sink_faults, sink_stalls, sink_limits, fails_next, taken_next};
+    ghost use Rattle.tz_io.specs.MemorySink.{sink_bytes, sink_calls, sink_faults, sink_stalls, sink_limits, write_fails_next, taken_next};
 
     ghost taken = { λ sink. Some (sink_bytes sink) };
 
@@ -82,7 +82,7 @@ impl Sink for MemorySink {
 
         // Which writes fail and are counted, and how much the others take.
         ensures counted { OnErr result (sink_faults self.new ≡ min (sink_faults self.old + 1) (2 ^ 64 - 1)) }
-        ensures fails { IsErr result ↔ IsTrue (fails_next self.old) }
+        ensures fails { IsErr result ↔ IsTrue (write_fails_next self.old) }
         ensures count { IfOk result (λ count. count ≡ taken_next self.old piece.now) }
         ensures calls { sink_calls self.new ≡ next_call (sink_calls self.old) }
         ensures limits { sink_limits self.new ≡ sink_limits self.old }

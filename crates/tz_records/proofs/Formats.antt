@@ -4,7 +4,7 @@ use Rattle.std.specs.List.{list_all, list_any}
 use Rattle.std.proofs.lemmas.Bool.{cases_Bool, and_parts, and_from, or_parts, not-true, not-false, le-leb}
 use Rattle.std.proofs.lemmas.Bool.Decides.{nat_tests}
 use Rattle.tz_types.specs.Text.{is_printable}
-use Rattle.tz_types.specs.Format.{is_plain, is_format_length, is_format}
+use Rattle.tz_types.specs.Format.{is_plain_part, is_format_length, is_format}
 use Rattle.tz_types.specs.declared.format.Format.{Format}
 use Rattle.tz_types.specs.declared.format.Format.TheVariants as formats
 use Rattle.tz_specs.specs.Choice.{only_if}
@@ -91,7 +91,7 @@ no_percent byte = differs 0x25 byte
 abbrev pub no_slash : ℕ → Bool
 no_slash byte = differs 0x2f byte
 
-plain_by : (bytes : List ℕ) → list_all no_percent bytes ≡ true → list_all no_slash bytes ≡ true → is_plain bytes ≡ true
+plain_by : (bytes : List ℕ) → list_all no_percent bytes ≡ true → list_all no_slash bytes ≡ true → is_plain_part bytes ≡ true
 plain_by [] percent slash = refl
 plain_by (byte ∷ bytes) percent slash =
     let first = and_parts (no_percent byte) (list_all no_percent bytes) percent in
@@ -122,7 +122,7 @@ only_if_some false x y e = cc
 abbrev pub IsGood : ℕ → Format → Type 0
 IsGood total format = (is_visible_format format ≡ true) × (total ≤ 25 → is_format format ≡ true)
 
-pair_good : (standard daylight : List ℕ) → list_all is_printable standard ≡ true → list_all is_printable daylight ≡ true → is_plain standard ≡ true → is_plain daylight ≡ true → is_empty standard ≡ false → is_empty daylight ≡ false → IsGood (span (standard ∷ daylight ∷ [])) (formats.Pair standard daylight)
+pair_good : (standard daylight : List ℕ) → list_all is_printable standard ≡ true → list_all is_printable daylight ≡ true → is_plain_part standard ≡ true → is_plain_part daylight ≡ true → is_empty standard ≡ false → is_empty daylight ≡ false → IsGood (span (standard ∷ daylight ∷ [])) (formats.Pair standard daylight)
 pair_good standard daylight first second plain other some more =
     let low : nat_le 1 (length standard) ≡ true = le-leb 1 (length standard) (some_byte standard some) in
     let high : nat_le 1 (length daylight) ≡ true = le-leb 1 (length daylight) (some_byte daylight more) in
@@ -135,7 +135,7 @@ plain_good (text ∷ []) format e visible percent slash some =
     let seen = and_parts (list_all is_printable text) true visible in
     let first = and_parts (list_all no_percent text) true percent in
     let second = and_parts (list_all no_slash text) true slash in
-    rw (← same) (seen.0, λ few. and_from (is_plain text) (is_format_length (length text)) (plain_by text first.0 second.0) (length_fits (length text) (omega arith) (omega arith)))
+    rw (← same) (seen.0, λ few. and_from (is_plain_part text) (is_format_length (length text)) (plain_by text first.0 second.0) (length_fits (length text) (omega arith) (omega arith)))
 plain_good (standard ∷ daylight ∷ []) format e visible percent slash some =
     let found = only_if_some (not (is_empty standard) && not (is_empty daylight)) (formats.Pair standard daylight) format e in
     let filled = and_parts (not (is_empty standard)) (not (is_empty daylight)) found.0 in
@@ -155,7 +155,7 @@ by_letter false false true x y told e = (refl, inr (cc))
 by_letter false false false x y told e = cc
 
 -- a format with a `%` has two bytes more than stand on both sides of the mark
-sides_good : (total : ℕ) (before after : List ℕ) → total ≡ length before + 2 + length after + 1 → list_all is_printable before ≡ true → list_all is_printable after ≡ true → is_plain before ≡ true → is_plain after ≡ true → IsGood total (formats.Letters before after)
+sides_good : (total : ℕ) (before after : List ℕ) → total ≡ length before + 2 + length after + 1 → list_all is_printable before ≡ true → list_all is_printable after ≡ true → is_plain_part before ≡ true → is_plain_part after ≡ true → IsGood total (formats.Letters before after)
 sides_good total before after is first second plain other =
     (rw (first, second) refl, λ few. rw (plain, other) (length_fits (length before + 2 + length after) (omega arith) (omega arith)))
 

@@ -4,7 +4,7 @@ ghost use Rattle.std.specs.List.{list_all};
 ghost use Rattle.jiff_core.specs.Calendar.{IsWithin};
 ghost use Rattle.tz_types.specs.Amount.{IsShift, IsTimeOfDay};
 ghost use Rattle.tz_types.specs.Calendar.{has_day, has_day_through};
-ghost use Rattle.tz_types.specs.Format.{is_plain, is_format_length, is_format};
+ghost use Rattle.tz_types.specs.Format.{is_plain_part, is_format_length, is_format};
 ghost use Rattle.tz_types.specs.Order.{ascends, ascends_after};
 ghost use Rattle.tz_types.specs.Year.{IsWrittenYear, IsRuleYear};
 
@@ -243,8 +243,8 @@ fn letters_before_rules(rt: HostRuntime) -> Result<(), Fail> {
     Ok(())
 }
 
-fn is_plain(bytes: &[u8]) -> bool
-    ensures { result ≡ is_plain bytes.now }
+fn is_plain_part(bytes: &[u8]) -> bool
+    ensures { result ≡ is_plain_part bytes.now }
 {
     bytes.iter().all(|byte| !(*byte == b'%' || *byte == b'/'))
 }
@@ -260,16 +260,16 @@ fn is_format(format: &Format) -> bool
 {
     match format {
         Format::Text(text) => {
-            is_plain(text.as_bytes()) && is_format_length(text.as_bytes().len())
+            is_plain_part(text.as_bytes()) && is_format_length(text.as_bytes().len())
         }
         Format::Letters { before, after } | Format::Offset { before, after } => {
-            is_plain(before.as_bytes())
-                && is_plain(after.as_bytes())
+            is_plain_part(before.as_bytes())
+                && is_plain_part(after.as_bytes())
                 && is_format_length(before.as_bytes().len() + 2 + after.as_bytes().len())
         }
         Format::Pair { standard, daylight } => {
-            is_plain(standard.as_bytes())
-                && is_plain(daylight.as_bytes())
+            is_plain_part(standard.as_bytes())
+                && is_plain_part(daylight.as_bytes())
                 && standard.as_bytes().len() >= 1
                 && daylight.as_bytes().len() >= 1
                 && is_format_length(standard.as_bytes().len() + 1 + daylight.as_bytes().len())

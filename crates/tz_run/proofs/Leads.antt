@@ -20,7 +20,7 @@ use Rattle.pin_core.specs.declared.write.Change.TheVariants.{Push, Erase}
 use Rattle.pin_core.specs.declared.write.Write.{Write}
 use Rattle.pin_core.specs.Replay.{Edition, ListState, opening, front_of, allowed, after_change, state_after, replays}
 use Rattle.pin_core.specs.Pushes.{pushes}
-use Rattle.pin_core.specs.Sequence.{next_seq, IsCounted}
+use Rattle.pin_core.specs.Sequence.{next_seq, AreCounted}
 use Rattle.pin_core.proofs.ListLemmas.{Stands}
 use Rattle.pin_core.proofs.ReplayLemmas.{replay_orderly, replays_push, state_after_push}
 use Rattle.pin_core.proofs.SequenceLemmas.{counted_push}
@@ -285,7 +285,7 @@ IsHeldIn state hold = slice_get state.kept hold.slot ≡ Some hold.n
 pub record IsSound (session : Session) : Type 0 where
   pub some : 0 < session.slots
   pub replay : IsTrue (replays session.slots session.journal)
-  pub counted : IsCounted session.journal
+  pub counted : AreCounted session.journal
   pub by_first : IsTrue (list_all (λ (write : Write). write.by == 0) session.journal)
   pub held : (hold : Hold) → Contains session.holds hold → IsHeldIn (list_now session) hold
 

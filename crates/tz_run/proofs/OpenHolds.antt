@@ -6,7 +6,7 @@ use Rattle.std.proofs.lemmas.List.{map-append, take_at}
 use Rattle.std.proofs.lemmas.List.Elements.{All-contains, All-contains_itself, All-filter, Contains-push_cases}
 use Rattle.std.proofs.lemmas.List.Folds.{list_any_at}
 use Rattle.tz_specs.specs.Value.{is_exactly}
-use Rattle.tz_script.specs.Holds.{without, holds_after}
+use Rattle.tz_script.specs.Holds.{without_hold, holds_after}
 use Rattle.tz_script.specs.declared.holds.OpenHold.{OpenHold}
 use Rattle.tz_script.specs.declared.operation.Op.{Op}
 use Rattle.tz_script.specs.declared.operation.Op.TheVariants as ops
@@ -72,7 +72,7 @@ keep_one true hold holds = refl
 keep_one false hold holds = refl
 
 -- a drop takes off the same holds
-without_of : (name : List ℕ) (holds : List Hold) → map open_of (filter (λ (hold : Hold). not (is_exactly hold.name name)) holds) ≡ without 1 name (map open_of holds)
+without_of : (name : List ℕ) (holds : List Hold) → map open_of (filter (λ (hold : Hold). not (is_exactly hold.name name)) holds) ≡ without_hold 1 name (map open_of holds)
 without_of name [] = refl
 without_of name (hold ∷ holds) =
     rw (← without_of name holds) (sym (keep_one (not (is_exactly hold.name name)) hold (filter (λ (hold : Hold). not (is_exactly hold.name name)) holds)))

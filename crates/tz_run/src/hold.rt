@@ -1,7 +1,7 @@
 //! Holds on versions. A lane has at most seven open in a round.
 ghost use Rattle.std.specs.Prelude.{◌≡◌, not, map, filter, IsTrue, Contains};
 ghost use Rattle.tz_specs.specs.Value.{is_exactly};
-ghost use Rattle.tz_script.specs.Keeping.{is_named};
+ghost use Rattle.tz_script.specs.Keeping.{is_among_names};
 ghost use Rattle.tz_run.specs.Session.{is_slot_held};
 ghost use Rattle.tz_run.specs.declared.hold.Hold.{Hold};
 
@@ -36,7 +36,7 @@ pub fn is_slot_held(holds: &[Hold], slot: u32) -> bool
 
 /// The hold of that name, which is open.
 pub fn hold_named<'a>(holds: &'a [Hold], name: &HoldName) -> &'a Hold
-    requires { IsTrue (is_named name.now (map (λ (hold : Hold). hold.name) holds.now)) }
+    requires { IsTrue (is_among_names name.now (map (λ (hold : Hold). hold.name) holds.now)) }
     ensures open { Contains holds.now result.now }
     ensures name { result.now.name ≡ name.now }
 {

@@ -7,8 +7,8 @@ use Rattle.std.proofs.lemmas.List.{map-append, append-nil}
 use Rattle.std.proofs.lemmas.List.Recursion.{is_count_by}
 use Rattle.std.proofs.lemmas.List.Elements.{filter-append}
 use Rattle.tz_specs.specs.Value.{is_exactly}
-use Rattle.tz_script.specs.Holds.{is_open, without, holds_after}
-use Rattle.tz_script.specs.Keeping.{is_in, ops_in, is_named, may_stand, names_after, names_open}
+use Rattle.tz_script.specs.Holds.{is_open, without_hold, holds_after}
+use Rattle.tz_script.specs.Keeping.{is_in, ops_in, is_among_names, may_stand, names_after, names_open}
 use Rattle.tz_script.specs.declared.holds.OpenHold.{OpenHold}
 use Rattle.tz_script.specs.declared.operation.Op.{Op}
 use Rattle.tz_script.specs.declared.operation.Op.TheVariants as ops
@@ -25,7 +25,7 @@ abbrev pub names_in : ℕ → List OpenHold → List (List ℕ)
 names_in lane holds = map name_of (filter (in_lane lane) holds)
 
 -- the lane has a hold of the name open where the name is one of those
-pub open_is_named : (lane : ℕ) (name : List ℕ) (holds : List OpenHold) → is_open lane name holds ≡ is_named name (names_in lane holds)
+pub open_is_named : (lane : ℕ) (name : List ℕ) (holds : List OpenHold) → is_open lane name holds ≡ is_among_names name (names_in lane holds)
 open_is_named lane name [] = refl
 open_is_named lane name (hold ∷ holds) =
     ⊎_elim
@@ -55,7 +55,7 @@ begun_elsewhere lane holds hold there =
     let none : filter (in_lane lane) (hold ∷ []) ≡ [] = rw there refl in
     ap (map name_of) (filter-append (in_lane lane) holds (hold ∷ []) ∙ ap (λ (more : List OpenHold). filter (in_lane lane) holds ++ more) none ∙ append-nil (filter (in_lane lane) holds))
 
-ended_in : (lane : ℕ) (name : List ℕ) (holds : List OpenHold) → names_in lane (without lane name holds) ≡ filter (λ other. not (is_exactly other name)) (names_in lane holds)
+ended_in : (lane : ℕ) (name : List ℕ) (holds : List OpenHold) → names_in lane (without_hold lane name holds) ≡ filter (λ other. not (is_exactly other name)) (names_in lane holds)
 ended_in lane name [] = refl
 ended_in lane name (hold ∷ holds) =
     ⊎_elim
@@ -74,7 +74,7 @@ same_lane a b other same unlike =
     is_same : (a b : ℕ) → (a == b) ≡ true → a ≡ b
     is_same a b same = grind (arith, nat_tests)
 
-ended_elsewhere : (lane other : ℕ) (name : List ℕ) (holds : List OpenHold) → (lane == other) ≡ false → names_in other (without lane name holds) ≡ names_in other holds
+ended_elsewhere : (lane other : ℕ) (name : List ℕ) (holds : List OpenHold) → (lane == other) ≡ false → names_in other (without_hold lane name holds) ≡ names_in other holds
 ended_elsewhere lane other name [] unlike = refl
 ended_elsewhere lane other name (hold ∷ holds) unlike =
     ⊎_elim

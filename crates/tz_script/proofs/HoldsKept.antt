@@ -10,8 +10,8 @@ use Rattle.tz_specs.specs.Day.{or_else}
 use Rattle.tz_specs.specs.Line.{lines_of}
 use Rattle.tz_script.specs.Cause.{least_script_cause, script_fault_at}
 use Rattle.tz_script.specs.Contents.{ScriptContents, no_script_contents, first_left, with_line_said}
-use Rattle.tz_script.specs.Holds.{is_open, first_line, holds_after}
-use Rattle.tz_script.specs.Keeping.{ops_in, is_named, may_begin, has_needed, may_stand, names_open, KeepsHolds, is_there, KeepsSources}
+use Rattle.tz_script.specs.Holds.{is_open, longest_open_line, holds_after}
+use Rattle.tz_script.specs.Keeping.{ops_in, is_among_names, may_begin, has_needed, may_stand, names_open, KeepsHolds, is_there, KeepsSources}
 use Rattle.tz_script.specs.Line.{lanes_said, round_causes, lane_causes, operation_causes, operation_said, lane_of, is_round, word_causes, words_say, script_line_causes, unless_refused, script_line_says, is_held_twice, is_unknown, is_crowded, is_missing, is_late, standing_causes}
 use Rattle.tz_script.specs.OpWords.{op_said}
 use Rattle.tz_script.specs.Operation.{hold_begun, hold_needed, source_asked}
@@ -47,7 +47,7 @@ behind_two false true rows h = cc
 begins_well : (lane : ℕ) (holds : List OpenHold) (begun : Option (List ℕ)) → is_held_twice lane holds begun ≡ false → is_crowded lane holds begun ≡ false → may_begin (names_in lane holds) begun ≡ true
 begins_well lane holds None twice crowded = refl
 begins_well lane holds (Some name) twice crowded =
-    by_tests (is_open lane name holds) (is_named name (names_in lane holds)) (length (names_in lane holds)) (open_is_named lane name holds) twice (ap (λ (n : ℕ). not (is_open lane name holds) && nat_le 7 n) (count_in lane holds) ∙ crowded)
+    by_tests (is_open lane name holds) (is_among_names name (names_in lane holds)) (length (names_in lane holds)) (open_is_named lane name holds) twice (ap (λ (n : ℕ). not (is_open lane name holds) && nat_le 7 n) (count_in lane holds) ∙ crowded)
   where
     few : (count : ℕ) → nat_le 7 count ≡ false → nat_lt count 7 ≡ true
     few count crowded = grind arith
@@ -125,7 +125,7 @@ record AreKept (rounds : ℕ) (operations : List Operation) (holds : List OpenHo
 abbrev AreHeld : ScriptContents → Type 0
 AreHeld contents = AreKept contents.rounds contents.operations contents.holds contents.left
 
-none_left : (left : Option ℕ) (holds : List OpenHold) → or_else left (first_line holds) ≡ None → (left ≡ None) × (holds ≡ [])
+none_left : (left : Option ℕ) (holds : List OpenHold) → or_else left (longest_open_line holds) ≡ None → (left ≡ None) × (holds ≡ [])
 none_left None [] e = (refl, refl)
 none_left None (hold ∷ holds) e = cc
 none_left (Some line) holds e = cc
@@ -140,7 +140,7 @@ by_order a b =
     (cases_lt a b)
 
 -- no hold is left open in any round
-all_dropped : (rounds : ℕ) (operations : List Operation) (holds : List OpenHold) (left : Option ℕ) → AreKept rounds operations holds left → or_else left (first_line holds) ≡ None → KeepsHolds operations
+all_dropped : (rounds : ℕ) (operations : List Operation) (holds : List OpenHold) (left : Option ℕ) → AreKept rounds operations holds left → or_else left (longest_open_line holds) ≡ None → KeepsHolds operations
 all_dropped rounds operations holds left kept e lane round =
     let parts = none_left left holds e in
     by_place (by_order round rounds) parts.0 parts.1
@@ -150,7 +150,7 @@ all_dropped rounds operations holds left kept e lane round =
     by_place (inr (inl same)) none empty = rw same (kept.here lane ∙ nothing_in lane holds empty)
     by_place (inr (inr behind)) none empty = rw (kept.later lane round behind) refl
 
-round_begun : (rounds : ℕ) (operations : List Operation) (holds : List OpenHold) (left : Option ℕ) → AreKept rounds operations holds left → AreKept (rounds + 1) operations [] (or_else left (first_line holds))
+round_begun : (rounds : ℕ) (operations : List Operation) (holds : List OpenHold) (left : Option ℕ) → AreKept rounds operations holds left → AreKept (rounds + 1) operations [] (or_else left (longest_open_line holds))
 round_begun rounds operations holds left kept =
     record {
       here = λ lane. rw (kept.later lane (rounds + 1) (omega arith)) refl;

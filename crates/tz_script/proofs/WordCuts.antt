@@ -6,7 +6,7 @@ use Rattle.std.proofs.lemmas.List.{drop_all}
 use Rattle.std.proofs.lemmas.List.Quantifiers.{position-Some}
 use Rattle.std.proofs.lemmas.List.Sums.{fails_before_first}
 use Rattle.tz_specs.specs.Parts.{onto_part}
-use Rattle.tz_script.specs.Words.{is_space, is_hash, before_comment, spaced_parts, words_of}
+use Rattle.tz_script.specs.Words.{is_space, is_hash, before_comment, spaced_parts, script_words}
 
 -- no byte before the place passes
 abbrev pub NoneBefore : (ℕ → Bool) → List ℕ → ℕ → Type 0
@@ -66,15 +66,15 @@ is_unspaced byte h = by_test (is_space byte) h
     by_test false h = refl
 
 -- a text of spaces has no words
-pub only_spaces : (text : List ℕ) → NoneBefore is_of_word text (length text) → words_of text ≡ []
-unfolding words_of spaced_parts
+pub only_spaces : (text : List ℕ) → NoneBefore is_of_word text (length text) → script_words text ≡ []
+unfolding script_words spaced_parts
 only_spaces [] none = refl
 only_spaces (byte ∷ text) none =
     rw (is_spaced byte (none 0 (omega arith))) (only_spaces text (later is_of_word byte text (length text) none))
 
 -- the words of a text are those behind its first spaces
-pub behind_spaces : (text : List ℕ) (begin : ℕ) → begin < length text → NoneBefore is_of_word text begin → words_of text ≡ words_of (drop begin text)
-unfolding words_of spaced_parts
+pub behind_spaces : (text : List ℕ) (begin : ℕ) → begin < length text → NoneBefore is_of_word text begin → script_words text ≡ script_words (drop begin text)
+unfolding script_words spaced_parts
 behind_spaces [] begin low none = absurd (omega arith)
 behind_spaces (byte ∷ text) zero low none = refl
 behind_spaces (byte ∷ text) (suc begin) low none =
@@ -93,24 +93,24 @@ one_part [] none = refl
 one_part (byte ∷ text) none =
     rw (none 0 (omega arith)) (ap (onto_part byte) (one_part text (later is_space byte text (length text) none)))
 
-first_word : (text : List ℕ) (end : ℕ) → is_space (get_or text 0 0) ≡ false → end < length text → is_space (get_or text end 0) ≡ true → NoneBefore is_space text end → words_of text ≡ take end text ∷ words_of (drop (suc end) text)
-unfolding words_of
+first_word : (text : List ℕ) (end : ℕ) → is_space (get_or text 0 0) ≡ false → end < length text → is_space (get_or text end 0) ≡ true → NoneBefore is_space text end → script_words text ≡ take end text ∷ script_words (drop (suc end) text)
+unfolding script_words
 first_word [] end first low is none = absurd (omega arith)
 first_word (byte ∷ text) zero first low is none = cc
 first_word (byte ∷ text) (suc end) first low is none =
     rw (parts_at_space (byte ∷ text) (suc end) low is none) refl
 
-last_word : (text : List ℕ) → 0 < length text → NoneBefore is_space text (length text) → words_of text ≡ text ∷ []
-unfolding words_of
+last_word : (text : List ℕ) → 0 < length text → NoneBefore is_space text (length text) → script_words text ≡ text ∷ []
+unfolding script_words
 last_word [] some none = absurd (omega arith)
 last_word (byte ∷ text) some none = rw (one_part (byte ∷ text) none) refl
 
-pub words_none : words_of [] ≡ []
-unfolding words_of spaced_parts
+pub words_none : script_words [] ≡ []
+unfolding script_words spaced_parts
 words_none = refl
 
 -- a text whose first word ends at a space
-pub word_cut : (text : List ℕ) (begin end : ℕ) → position is_of_word text ≡ Some begin → position is_space (drop begin text) ≡ Some end → words_of text ≡ take end (drop begin text) ∷ words_of (drop (suc end) (drop begin text))
+pub word_cut : (text : List ℕ) (begin end : ℕ) → position is_of_word text ≡ Some begin → position is_space (drop begin text) ≡ Some end → script_words text ≡ take end (drop begin text) ∷ script_words (drop (suc end) (drop begin text))
 word_cut text begin end from to =
     let at = position-Some is_of_word text begin 0 from in
     let stop = position-Some is_space (drop begin text) end 0 to in
@@ -124,7 +124,7 @@ word_cut text begin end from to =
     get_or_drop (byte ∷ text) (suc begin) = get_or_drop text begin
 
 -- a text whose first word is its last
-pub word_last : (text : List ℕ) (begin : ℕ) → position is_of_word text ≡ Some begin → position is_space (drop begin text) ≡ None → words_of text ≡ drop begin text ∷ []
+pub word_last : (text : List ℕ) (begin : ℕ) → position is_of_word text ≡ Some begin → position is_space (drop begin text) ≡ None → script_words text ≡ drop begin text ∷ []
 word_last text begin from none =
     let at = position-Some is_of_word text begin 0 from in
     let some : 0 < length (drop begin text) = omega (arith, length-drop {A = ℕ}) in

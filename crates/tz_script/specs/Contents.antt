@@ -1,7 +1,7 @@
 -- What the lines of a script give, one after another.
 use Rattle.std.specs.Prelude.{ℕ, ◌+◌, if◌then◌else◌, List, [], ◌∷◌, ◌++◌, Option, Some, None}
 use Rattle.tz_specs.specs.Day.{or_else}
-use Rattle.tz_script.specs.Holds.{first_line, holds_after}
+use Rattle.tz_script.specs.Holds.{longest_open_line, holds_after}
 use Rattle.tz_script.specs.Operation.{is_change}
 use Rattle.tz_script.specs.declared.holds.OpenHold.{OpenHold}
 use Rattle.tz_script.specs.declared.operation.Operation.{Operation}
@@ -25,7 +25,7 @@ no_script_contents = record { lanes = None; rounds = 0; operations = []; changes
 
 -- the line of the first hold that isn't dropped in its round, where the last round ends here
 abbrev pub first_left : ScriptContents → Option ℕ
-first_left contents = or_else contents.left (first_line contents.holds)
+first_left contents = or_else contents.left (longest_open_line contents.holds)
 
 -- the contents with what one more line says, by its number; a blank one says nothing
 abbrev pub with_line_said : ℕ → Option Said → ScriptContents → ScriptContents

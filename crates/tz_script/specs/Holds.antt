@@ -20,16 +20,16 @@ abbrev pub is_full : ℕ → List OpenHold → Bool
 is_full lane holds = nat_le most_holds (count_by (λ hold. hold.lane == lane) holds)
 
 -- the holds but the one of that lane by that name
-abbrev pub without : ℕ → List ℕ → List OpenHold → List OpenHold
-without lane name holds = filter (λ hold. not (is_hold lane name hold)) holds
+abbrev pub without_hold : ℕ → List ℕ → List OpenHold → List OpenHold
+without_hold lane name holds = filter (λ hold. not (is_hold lane name hold)) holds
 
 -- the line of the hold that has been open longest
-abbrev pub first_line : List OpenHold → Option ℕ
-first_line [] = None
-first_line (hold ∷ holds) = Some hold.line
+abbrev pub longest_open_line : List OpenHold → Option ℕ
+longest_open_line [] = None
+longest_open_line (hold ∷ holds) = Some hold.line
 
 -- the holds that are open after an operation at a line
 abbrev pub holds_after : ℕ → ℕ → Op → List OpenHold → List OpenHold
 holds_after number lane (ops.Hold name) holds = holds ++ record { lane = lane; name = name; line = number } ∷ []
-holds_after number lane (ops.Drop name) holds = without lane name holds
+holds_after number lane (ops.Drop name) holds = without_hold lane name holds
 holds_after number lane _ holds = holds

@@ -18,18 +18,18 @@ abbrev pub ops_in : ℕ → ℕ → List Operation → List Op
 ops_in lane round operations = map (λ (operation : Operation). operation.op) (filter (is_in lane round) operations)
 
 -- the name is one of them
-abbrev pub is_named : List ℕ → List (List ℕ) → Bool
-is_named name names = list_any (λ other. is_exactly other name) names
+abbrev pub is_among_names : List ℕ → List (List ℕ) → Bool
+is_among_names name names = list_any (λ other. is_exactly other name) names
 
 -- a hold that begins has another name than those that are open, and these are at most six
 abbrev pub may_begin : List (List ℕ) → Option (List ℕ) → Bool
 may_begin names None = true
-may_begin names (Some name) = not (is_named name names) && nat_lt (length names) most_holds
+may_begin names (Some name) = not (is_among_names name names) && nat_lt (length names) most_holds
 
 -- the hold that has to be open is
 abbrev pub has_needed : List (List ℕ) → Option (List ℕ) → Bool
 has_needed names None = true
-has_needed names (Some name) = is_named name names
+has_needed names (Some name) = is_among_names name names
 
 -- the operation may stand where holds of these names are open
 abbrev pub may_stand : List (List ℕ) → Op → Bool

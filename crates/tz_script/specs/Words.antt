@@ -16,8 +16,8 @@ abbrev pub is_hash : ℕ → Bool
 is_hash byte = byte == 0x23
 
 -- a byte that may stand before a comment
-abbrev pub is_plain : ℕ → Bool
-is_plain byte = is_printable byte || is_space byte
+abbrev pub is_script_byte : ℕ → Bool
+is_script_byte byte = is_printable byte || is_space byte
 
 -- what stands before the first `#`
 unfoldable pub before_comment : List ℕ → List ℕ
@@ -31,13 +31,13 @@ spaced_parts (byte ∷ bytes) =
     if is_space byte then [] ∷ spaced_parts bytes else onto_part byte (spaced_parts bytes)
 
 -- the parts that have a byte
-unfoldable pub words_of : List ℕ → List (List ℕ)
-words_of bytes = filter (λ part. not (is_empty part)) (spaced_parts bytes)
+unfoldable pub script_words : List ℕ → List (List ℕ)
+script_words bytes = filter (λ part. not (is_empty part)) (spaced_parts bytes)
 
 -- the words of a line, up to its comment
 abbrev pub line_words : List ℕ → List (List ℕ)
-line_words line = words_of (before_comment line)
+line_words line = script_words (before_comment line)
 
 -- the line is longer than 512 bytes with its newline, or has before its comment a byte that may not stand there
 abbrev pub is_bad_line : List ℕ → Bool
-is_bad_line line = nat_lt longest_line (line_length line) || not (list_all is_plain (before_comment line))
+is_bad_line line = nat_lt longest_line (line_length line) || not (list_all is_script_byte (before_comment line))

@@ -6,7 +6,7 @@ ghost use Rattle.tz_script.specs.Operation.{is_change};
 ghost use Rattle.tz_script.specs.Inside.{all_stand_before};
 
 use crate::gathered::Gathered;
-use crate::holds::{change, first_line};
+use crate::holds::{change, longest_open_line};
 use crate::operation::{Op, Operation};
 use crate::said::Said;
 use std::alloc::Global;
@@ -33,7 +33,7 @@ impl Gathered {
     {
         match self.left {
             Some(line) => Some(line),
-            None => first_line(self.holds.as_slice()),
+            None => longest_open_line(self.holds.as_slice()),
         }
     }
 

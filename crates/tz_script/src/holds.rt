@@ -1,7 +1,7 @@
 //! The holds that are open in a round. A lane has at most seven, so that an operation looks at few, however long the
 //! script is.
 ghost use Rattle.std.specs.Prelude.{◌≡◌, ◌==◌, ◌∷◌, ◌++◌, [], count_by, OnOk};
-ghost use Rattle.tz_script.specs.Holds.{is_hold, is_open, is_full, without, first_line, holds_after};
+ghost use Rattle.tz_script.specs.Holds.{is_hold, is_open, is_full, without_hold, longest_open_line, holds_after};
 
 use crate::hold_name::HoldName;
 use crate::limit::MOST_HOLDS;
@@ -61,14 +61,14 @@ fn begin(holds: &mut Vec<OpenHold>, lane: u32, name: &HoldName, line: u32) -> Re
 
 /// Lets a hold go.
 fn end(holds: &mut Vec<OpenHold>, lane: u32, name: &[u8])
-    ensures { holds.new.items ≡ without lane name.now holds.old.items }
+    ensures { holds.new.items ≡ without_hold lane name.now holds.old.items }
 {
     holds.retain(|hold| !hold.is(lane, name));
 }
 
 /// The line of the hold that has been open longest.
-pub fn first_line(holds: &[OpenHold]) -> Option<u32>
-    ensures { result ≡ first_line holds.now }
+pub fn longest_open_line(holds: &[OpenHold]) -> Option<u32>
+    ensures { result ≡ longest_open_line holds.now }
 {
     match holds.first() {
         Some(hold) => Some(hold.line),

@@ -9,7 +9,7 @@ ghost use Rattle.tz_script.specs.Operation.{hold_begun, hold_needed, source_aske
 ghost use Rattle.tz_script.specs.OpWords.{op_said};
 ghost use Rattle.tz_script.specs.Size.{IsSized};
 ghost use Rattle.tz_script.specs.Tells.{MeansSaid, TellsSaid};
-ghost use Rattle.tz_script.specs.Words.{words_of};
+ghost use Rattle.tz_script.specs.Words.{script_words};
 
 use crate::cause::ScriptCause;
 use crate::gathered::Gathered;
@@ -25,7 +25,7 @@ use crate::words::{before_comment, is_bad_line, is_exactly, next_word};
 /// How many lanes there are, by the words `lanes N`.
 #[tactic(auto, unfolding(crate::specs::Line::lanes_said))]
 fn lanes(text: &[u8]) -> Option<u32>
-    ensures value { result ≡ lanes_said (words_of text.now) }
+    ensures value { result ≡ lanes_said (script_words text.now) }
     ensures bound { IfSome result (IsInRange 1 most_lanes) }
 {
     let (word, rest) = next_word(text)?;
@@ -42,7 +42,7 @@ fn lanes(text: &[u8]) -> Option<u32>
 
 /// The first line that isn't blank.
 fn first_line(text: &[u8]) -> Result<Said, ScriptCause>
-    ensures told { TellsSaid (first_causes (words_of text.now)) (option_map Said.Lanes (lanes_said (words_of text.now))) result }
+    ensures told { TellsSaid (first_causes (script_words text.now)) (option_map Said.Lanes (lanes_said (script_words text.now))) result }
     ensures bound { IfOk result AreLanes }
 {
     match lanes(text) {
@@ -53,7 +53,7 @@ fn first_line(text: &[u8]) -> Result<Said, ScriptCause>
 
 /// A round, behind whose word the text stands.
 fn round(text: &[u8], gathered: &Gathered) -> Result<Said, ScriptCause>
-    ensures told { TellsSaid (round_causes (script_contents_gathered gathered.now) (words_of text.now)) (Some Said.Round) result }
+    ensures told { TellsSaid (round_causes (script_contents_gathered gathered.now) (script_words text.now)) (Some Said.Round) result }
     ensures may { IfOk result (λ said. MayFollow (script_contents_gathered gathered.now) said) }
 {
     if next_word(text).is_some() {
@@ -67,7 +67,7 @@ fn round(text: &[u8], gathered: &Gathered) -> Result<Said, ScriptCause>
 
 /// The operation that the words say.
 fn operation_of(text: &[u8], gathered: &Gathered) -> Result<Op, ScriptCause>
-    ensures told { TellsSaid (op_causes (script_contents_gathered gathered.now) (words_of text.now)) (op_said (words_of text.now)) result }
+    ensures told { TellsSaid (op_causes (script_contents_gathered gathered.now) (script_words text.now)) (op_said (script_words text.now)) result }
     ensures begun { IfOk result (λ _. 0 < gathered.now.rounds) }
     ensures sized { IfOk result IsSized }
 {
@@ -160,7 +160,7 @@ fn operation(
     gathered: &Gathered,
 ) -> Result<Said, ScriptCause>
     requires { gathered.now.lanes ≡ Some lanes }
-    ensures told { TellsSaid (operation_causes sources (script_contents_gathered gathered.now) lanes word.now (words_of text.now)) (operation_said lanes word.now (words_of text.now)) result }
+    ensures told { TellsSaid (operation_causes sources (script_contents_gathered gathered.now) lanes word.now (script_words text.now)) (operation_said lanes word.now (script_words text.now)) result }
     ensures may { IfOk result (λ said. MayFollow (script_contents_gathered gathered.now) said) }
 {
     let op = match operation_of(text, gathered) {
@@ -185,7 +185,7 @@ fn later_line(
     gathered: &Gathered,
 ) -> Result<Said, ScriptCause>
     requires { gathered.now.lanes ≡ Some lanes }
-    ensures told { TellsSaid (word_causes sources (script_contents_gathered gathered.now) (Some lanes) (word.now ∷ words_of text.now)) (words_say (Some lanes) (word.now ∷ words_of text.now)) result }
+    ensures told { TellsSaid (word_causes sources (script_contents_gathered gathered.now) (Some lanes) (word.now ∷ script_words text.now)) (words_say (Some lanes) (word.now ∷ script_words text.now)) result }
     ensures may { IfOk result (λ said. MayFollow (script_contents_gathered gathered.now) said) }
 {
     if is_exactly(word, b"round") {
@@ -197,7 +197,7 @@ fn later_line(
 
 /// What the words of a line say: nothing where there are none.
 fn words_said(text: &[u8], sources: u32, gathered: &Gathered) -> Result<Option<Said>, ScriptCause>
-    ensures told { MeansSaid (word_causes sources (script_contents_gathered gathered.now) gathered.now.lanes (words_of text.now)) (words_say gathered.now.lanes (words_of text.now)) result }
+    ensures told { MeansSaid (word_causes sources (script_contents_gathered gathered.now) gathered.now.lanes (script_words text.now)) (words_say gathered.now.lanes (script_words text.now)) result }
     ensures may { IfOk result (MayBeNext (script_contents_gathered gathered.now)) }
 {
     let Some((word, rest)) = next_word(text) else {

@@ -4,7 +4,7 @@ ghost use Rattle.tz_script.specs.FirstWord.{first, ends};
 ghost use Rattle.tz_script.specs.Keyword.{keyword_of};
 ghost use Rattle.tz_script.specs.OpWords.{op_of, keyword_first, hold_op, drop_op, info_op, local_op, sys_op, scan_op, clock_op, reload_op, erase_op};
 ghost use Rattle.tz_script.specs.Size.{IsSized};
-ghost use Rattle.tz_script.specs.Words.{words_of};
+ghost use Rattle.tz_script.specs.Words.{script_words};
 
 use crate::keyword::Keyword;
 use crate::operand::{choice, conversion, counted, hold_name, local, pick, signed, zone_name};
@@ -13,7 +13,7 @@ use crate::words::next_word;
 
 /// The operation, where no word is left.
 fn ends(op: Op, text: &[u8]) -> Option<Op>
-    ensures value { result ≡ ends op (words_of text.now) }
+    ensures value { result ≡ ends op (script_words text.now) }
     ensures sized { IsSized op → IfSome result IsSized }
 {
     match next_word(text) {
@@ -24,7 +24,7 @@ fn ends(op: Op, text: &[u8]) -> Option<Op>
 
 /// The keyword that the next word is, and what follows it.
 pub fn keyword(text: &[u8]) -> Option<(Keyword, &[u8])>
-    ensures { option_map (λ cut. (cut.0, words_of cut.1.now)) result ≡ keyword_first (words_of text.now) }
+    ensures { option_map (λ cut. (cut.0, script_words cut.1.now)) result ≡ keyword_first (script_words text.now) }
 {
     let (word, rest) = next_word(text)?;
     Some((Keyword::from_word(word)?, rest))
@@ -32,7 +32,7 @@ pub fn keyword(text: &[u8]) -> Option<(Keyword, &[u8])>
 
 #[tactic(auto, unfolding(crate::specs::OpWords::hold_op))]
 fn hold(text: &[u8]) -> Option<Op>
-    ensures value { result ≡ hold_op (words_of text.now) }
+    ensures value { result ≡ hold_op (script_words text.now) }
     ensures sized { IfSome result IsSized }
 {
     let (name, rest) = hold_name(text)?;
@@ -41,7 +41,7 @@ fn hold(text: &[u8]) -> Option<Op>
 
 #[tactic(auto, unfolding(crate::specs::OpWords::drop_op))]
 fn drop(text: &[u8]) -> Option<Op>
-    ensures value { result ≡ drop_op (words_of text.now) }
+    ensures value { result ≡ drop_op (script_words text.now) }
     ensures sized { IfSome result IsSized }
 {
     let (name, rest) = hold_name(text)?;
@@ -50,7 +50,7 @@ fn drop(text: &[u8]) -> Option<Op>
 
 #[tactic(auto, unfolding(crate::specs::OpWords::info_op))]
 fn info(text: &[u8]) -> Option<Op>
-    ensures value { result ≡ info_op (words_of text.now) }
+    ensures value { result ≡ info_op (script_words text.now) }
     ensures sized { IfSome result IsSized }
 {
     let (v, rest) = pick(text)?;
@@ -61,7 +61,7 @@ fn info(text: &[u8]) -> Option<Op>
 
 #[tactic(auto, unfolding(crate::specs::OpWords::local_op))]
 fn local_time(text: &[u8]) -> Option<Op>
-    ensures value { result ≡ local_op (words_of text.now) }
+    ensures value { result ≡ local_op (script_words text.now) }
     ensures sized { IfSome result IsSized }
 {
     let (v, rest) = pick(text)?;
@@ -72,7 +72,7 @@ fn local_time(text: &[u8]) -> Option<Op>
 
 #[tactic(auto, unfolding(crate::specs::OpWords::sys_op))]
 fn sys(text: &[u8]) -> Option<Op>
-    ensures value { result ≡ sys_op (words_of text.now) }
+    ensures value { result ≡ sys_op (script_words text.now) }
     ensures sized { IfSome result IsSized }
 {
     let (v, rest) = pick(text)?;
@@ -84,7 +84,7 @@ fn sys(text: &[u8]) -> Option<Op>
 
 #[tactic(auto, unfolding(crate::specs::OpWords::scan_op))]
 fn scan(text: &[u8]) -> Option<Op>
-    ensures value { result ≡ scan_op (words_of text.now) }
+    ensures value { result ≡ scan_op (script_words text.now) }
     ensures sized { IfSome result IsSized }
 {
     let (v, rest) = pick(text)?;
@@ -104,7 +104,7 @@ fn scan(text: &[u8]) -> Option<Op>
 
 #[tactic(auto, unfolding(crate::specs::OpWords::clock_op))]
 fn clock(text: &[u8]) -> Option<Op>
-    ensures value { result ≡ clock_op (words_of text.now) }
+    ensures value { result ≡ clock_op (script_words text.now) }
     ensures sized { IfSome result IsSized }
 {
     let (v, rest) = pick(text)?;
@@ -115,7 +115,7 @@ fn clock(text: &[u8]) -> Option<Op>
 
 #[tactic(auto, unfolding(crate::specs::OpWords::reload_op))]
 fn reload(text: &[u8]) -> Option<Op>
-    ensures value { result ≡ reload_op (words_of text.now) }
+    ensures value { result ≡ reload_op (script_words text.now) }
     ensures sized { IfSome result IsSized }
 {
     let (src, rest) = counted(text, 0, 63)?;
@@ -124,7 +124,7 @@ fn reload(text: &[u8]) -> Option<Op>
 
 #[tactic(auto, unfolding(crate::specs::OpWords::erase_op))]
 fn erase(text: &[u8]) -> Option<Op>
-    ensures value { result ≡ erase_op (words_of text.now) }
+    ensures value { result ≡ erase_op (script_words text.now) }
     ensures sized { IfSome result IsSized }
 {
     let (v, rest) = pick(text)?;
@@ -133,7 +133,7 @@ fn erase(text: &[u8]) -> Option<Op>
 
 /// The operation of a keyword, by the words of its operands.
 pub fn op(keyword: Keyword, text: &[u8]) -> Option<Op>
-    ensures value { result ≡ op_of keyword (words_of text.now) }
+    ensures value { result ≡ op_of keyword (script_words text.now) }
     ensures sized { IfSome result IsSized }
 {
     match keyword {

@@ -5,7 +5,7 @@ ghost use Rattle.jiff_core.specs.Calendar.{IsWithin};
 ghost use Rattle.tz_text.specs.LocalTime.{local_time_of};
 ghost use Rattle.tz_script.specs.Limit.{most_lanes};
 ghost use Rattle.tz_script.specs.Size.{most_signed};
-ghost use Rattle.tz_script.specs.Words.{words_of};
+ghost use Rattle.tz_script.specs.Words.{script_words};
 ghost use Rattle.tz_script.specs.Operand.{hold_name_of, pick_of, zone_name_of, signed_of, counted_of, choice_of, conversion_of, lane_count_of};
 ghost use Rattle.tz_script.specs.FirstWord.{first};
 
@@ -100,7 +100,7 @@ pub fn lane_count_of(word: &[u8]) -> Option<u32>
 
 /// The version that the next word picks, and what follows it.
 pub fn pick(text: &[u8]) -> Option<(Pick, &[u8])>
-    ensures { option_map (λ cut. (cut.0, words_of cut.1.now)) result ≡ first pick_of (words_of text.now) }
+    ensures { option_map (λ cut. (cut.0, script_words cut.1.now)) result ≡ first pick_of (script_words text.now) }
 {
     let (word, rest) = next_word(text)?;
     Some((pick_of(word)?, rest))
@@ -108,7 +108,7 @@ pub fn pick(text: &[u8]) -> Option<(Pick, &[u8])>
 
 /// The name of a hold, and what follows it.
 pub fn hold_name(text: &[u8]) -> Option<(HoldName, &[u8])>
-    ensures { option_map (λ cut. (cut.0, words_of cut.1.now)) result ≡ first hold_name_of (words_of text.now) }
+    ensures { option_map (λ cut. (cut.0, script_words cut.1.now)) result ≡ first hold_name_of (script_words text.now) }
 {
     let (word, rest) = next_word(text)?;
     Some((HoldName::new(word)?, rest))
@@ -116,7 +116,7 @@ pub fn hold_name(text: &[u8]) -> Option<(HoldName, &[u8])>
 
 /// The name of a zone, and what follows it.
 pub fn zone_name(text: &[u8]) -> Option<(Label, &[u8])>
-    ensures { option_map (λ cut. (cut.0, words_of cut.1.now)) result ≡ first zone_name_of (words_of text.now) }
+    ensures { option_map (λ cut. (cut.0, script_words cut.1.now)) result ≡ first zone_name_of (script_words text.now) }
 {
     let (word, rest) = next_word(text)?;
     Some((zone_name_of(word)?, rest))
@@ -124,7 +124,7 @@ pub fn zone_name(text: &[u8]) -> Option<(Label, &[u8])>
 
 /// An instant or a count: an optional `-` and at most 15 digits; and what follows it.
 pub fn signed(text: &[u8]) -> Option<(i64, &[u8])>
-    ensures value { option_map (λ cut. (cut.0, words_of cut.1.now)) result ≡ first signed_of (words_of text.now) }
+    ensures value { option_map (λ cut. (cut.0, script_words cut.1.now)) result ≡ first signed_of (script_words text.now) }
     ensures bound { IfSome result (λ cut. IsWithin most_signed cut.0) }
 {
     let (word, rest) = next_word(text)?;
@@ -133,7 +133,7 @@ pub fn signed(text: &[u8]) -> Option<(i64, &[u8])>
 
 /// A local time: a number, or a civil date and time of day; and what follows it.
 pub fn local(text: &[u8]) -> Option<(i64, &[u8])>
-    ensures { option_map (λ cut. (cut.0, words_of cut.1.now)) result ≡ first local_time_of (words_of text.now) }
+    ensures { option_map (λ cut. (cut.0, script_words cut.1.now)) result ≡ first local_time_of (script_words text.now) }
 {
     let (word, rest) = next_word(text)?;
     Some((local_time(word)?, rest))
@@ -141,7 +141,7 @@ pub fn local(text: &[u8]) -> Option<(i64, &[u8])>
 
 /// A number of at most 10 digits, from a number to another, and what follows it.
 pub fn counted(text: &[u8], low: u32, high: u32) -> Option<(u32, &[u8])>
-    ensures value { option_map (λ cut. (cut.0, words_of cut.1.now)) result ≡ first (counted_of low high) (words_of text.now) }
+    ensures value { option_map (λ cut. (cut.0, script_words cut.1.now)) result ≡ first (counted_of low high) (script_words text.now) }
     ensures bound { IfSome result (λ cut. IsInRange low high cut.0) }
 {
     let (word, rest) = next_word(text)?;
@@ -150,7 +150,7 @@ pub fn counted(text: &[u8], low: u32, high: u32) -> Option<(u32, &[u8])>
 
 /// The choice that the next word names, none for `strict`, and what follows it.
 pub fn choice(text: &[u8]) -> Option<(Option<Choose>, &[u8])>
-    ensures { option_map (λ cut. (cut.0, words_of cut.1.now)) result ≡ first choice_of (words_of text.now) }
+    ensures { option_map (λ cut. (cut.0, script_words cut.1.now)) result ≡ first choice_of (script_words text.now) }
 {
     let (word, rest) = next_word(text)?;
     Some((choice_of(word)?, rest))
@@ -158,7 +158,7 @@ pub fn choice(text: &[u8]) -> Option<(Option<Choose>, &[u8])>
 
 /// The conversion that the next word names, and what follows it.
 pub fn conversion(text: &[u8]) -> Option<(Conversion, &[u8])>
-    ensures { option_map (λ cut. (cut.0, words_of cut.1.now)) result ≡ first conversion_of (words_of text.now) }
+    ensures { option_map (λ cut. (cut.0, script_words cut.1.now)) result ≡ first conversion_of (script_words text.now) }
 {
     let (word, rest) = next_word(text)?;
     Some((conversion_of(word)?, rest))

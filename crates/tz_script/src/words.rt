@@ -2,7 +2,7 @@
 ghost use Rattle.std.specs.Prelude.{◌≡◌, not, [], ◌∷◌, IsNone, IfSome};
 ghost use Rattle.std.specs.List.{list_all, position};
 ghost use Rattle.tz_specs.specs.Value.{is_exactly};
-ghost use Rattle.tz_script.specs.Words.{is_space, is_hash, is_plain, before_comment, words_of, is_bad_line};
+ghost use Rattle.tz_script.specs.Words.{is_space, is_hash, is_script_byte, before_comment, script_words, is_bad_line};
 
 use crate::limit::LONGEST_LINE;
 
@@ -50,8 +50,8 @@ pub fn before_comment(line: &[u8]) -> &[u8]
 
 /// The first word, and what follows it.
 pub fn next_word(text: &[u8]) -> Option<(&[u8], &[u8])>
-    ensures some { IfSome result (λ cut. words_of text.now ≡ cut.0.now ∷ words_of cut.1.now) }
-    ensures none { IsNone result → words_of text.now ≡ [] }
+    ensures some { IfSome result (λ cut. script_words text.now ≡ cut.0.now ∷ script_words cut.1.now) }
+    ensures none { IsNone result → script_words text.now ≡ [] }
 {
     let begin = word_place(text)?;
     let rest = &text[begin..];
@@ -62,7 +62,7 @@ pub fn next_word(text: &[u8]) -> Option<(&[u8], &[u8])>
 }
 
 fn are_plain(bytes: &[u8]) -> bool
-    ensures { result ≡ list_all is_plain bytes.now }
+    ensures { result ≡ list_all is_script_byte bytes.now }
 {
     bytes
         .iter()

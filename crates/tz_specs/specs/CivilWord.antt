@@ -13,16 +13,16 @@ abbrev pub has_civil_marks : List ℕ → Bool
 has_civil_marks word = (length word == 19) && is_exactly (marks_of word) (codes "--T::")
 
 -- the number that so many digits from a place on are
-abbrev pub number_at : ℕ → ℕ → List ℕ → Option ℕ
-number_at place digits word = number_of digits digits (take digits (drop place word))
+abbrev pub digits_at : ℕ → ℕ → List ℕ → Option ℕ
+digits_at place digits word = number_of digits digits (take digits (drop place word))
 
 -- the local second that the word names, where the calendar has its date and a clock shows its time
 unfoldable pub civil_word : List ℕ → Option ℤ
 civil_word word = only_if (has_civil_marks word) word >>= λ marked. do
-  year ← number_at 0 4 marked
-  month ← number_at 5 2 marked
-  day ← number_at 8 2 marked
-  hour ← number_at 11 2 marked
-  minute ← number_at 14 2 marked
-  second ← number_at 17 2 marked
+  year ← digits_at 0 4 marked
+  month ← digits_at 5 2 marked
+  day ← digits_at 8 2 marked
+  hour ← digits_at 11 2 marked
+  minute ← digits_at 14 2 marked
+  second ← digits_at 17 2 marked
   only_if (is_civil_second (pos year) month day hour minute second) (civil_second (pos year) month day hour minute second)

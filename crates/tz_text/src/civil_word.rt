@@ -1,7 +1,7 @@
 //! The word `YYYY-MM-DDTHH:MM:SS`, after ISO 8601: a civil date and time of day, as a clock in a zone shows them.
 ghost use Rattle.std.specs.Prelude.{◌≡◌, ◌≤◌, ◌+◌, [], ◌∷◌, length, IfSome, IsTrue, Some, None, if◌then◌else◌, ◌-◌};
 ghost use Rattle.tz_specs.specs.Number.{is_digit, number_of};
-ghost use Rattle.tz_specs.specs.CivilWord.{has_civil_marks, number_at, civil_word};
+ghost use Rattle.tz_specs.specs.CivilWord.{has_civil_marks, digits_at, civil_word};
 
 use tz_types::civil_seconds;
 
@@ -40,7 +40,7 @@ fn four_digits(thousands: u8, hundreds: u8, tens: u8, ones: u8) -> Option<u16>
 /// The number that the two bytes from a place on write.
 fn two_at(word: &[u8], place: usize) -> Option<u8>
     requires { place + 2 ≤ length word.now }
-    ensures value { result ≡ number_at place 2 word.now }
+    ensures value { result ≡ digits_at place 2 word.now }
     ensures bound { IfSome result (λ number. number ≤ 99) }
 {
     two_digits(word[place], word[place + 1])
@@ -49,7 +49,7 @@ fn two_at(word: &[u8], place: usize) -> Option<u8>
 /// The number that the first four bytes write.
 fn first_four(word: &[u8]) -> Option<u16>
     requires { 4 ≤ length word.now }
-    ensures value { result ≡ number_at 0 4 word.now }
+    ensures value { result ≡ digits_at 0 4 word.now }
     ensures bound { IfSome result (λ number. number ≤ 9_999) }
 {
     four_digits(word[0], word[1], word[2], word[3])

@@ -3,7 +3,7 @@ use Rattle.std.proofs.Common.{◌≡◌, ℕ, suc, ◌+◌, ◌≤◌, Bool, tru
 use Rattle.std.specs.List.{list_all, list_any}
 use Rattle.std.proofs.lemmas.Bool.{cases_Bool}
 use Rattle.std.proofs.lemmas.Bool.Decides.{nat_tests}
-use Rattle.tz_types.specs.Format.{is_plain, is_format_length, is_format}
+use Rattle.tz_types.specs.Format.{is_plain_part, is_format_length, is_format}
 use Rattle.tz_types.specs.declared.format.Format.{Format}
 use Rattle.tz_types.specs.declared.format.Format.TheVariants as formats
 use Rattle.tz_specs.specs.Choice.{only_if}
@@ -43,7 +43,7 @@ is_cut mark (byte ∷ bytes) =
     (λ (other : (byte == mark) ≡ false). rw other (onto mark byte bytes (parts_at mark bytes) other (is_cut mark bytes)))
     (cases_Bool (byte == mark))
 
-both_lack : (bytes : List ℕ) → IsTrue (lacks 0x25 bytes) → IsTrue (lacks 0x2f bytes) → IsTrue (is_plain bytes)
+both_lack : (bytes : List ℕ) → IsTrue (lacks 0x25 bytes) → IsTrue (lacks 0x2f bytes) → IsTrue (is_plain_part bytes)
 both_lack [] first second = refl
 both_lack (byte ∷ bytes) first second =
     let one = both_hold (not (byte == 0x25)) (lacks 0x25 bytes) first in
@@ -112,7 +112,7 @@ marked_form field before (letter ∷ after) format is high first second h =
     neither true b h = absurd (cc)
     neither false b h = (refl, h)
 
-    by_letter : IsTrue (is_plain before) → IsTrue (is_plain after) → IsTrue (is_format_length (length before + 2 + length after)) → (if letter == 0x73 then Some (formats.Letters before after) else (if letter == 0x7a then Some (formats.Offset before after) else None)) ≡ Some format → IsTrue (is_format format)
+    by_letter : IsTrue (is_plain_part before) → IsTrue (is_plain_part after) → IsTrue (is_format_length (length before + 2 + length after)) → (if letter == 0x73 then Some (formats.Letters before after) else (if letter == 0x7a then Some (formats.Offset before after) else None)) ≡ Some format → IsTrue (is_format format)
     by_letter plain also size h =
         ⊎_elim (λ (is : (letter == 0x73) ≡ true).
         let same = some_same (formats.Letters before after) format (rw is at h) in

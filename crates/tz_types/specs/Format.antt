@@ -6,19 +6,19 @@ use Rattle.tz_types.specs.declared.format.Format.{Format}
 use Rattle.tz_types.specs.declared.format.Format.TheVariants as formats
 
 -- no `%` and no `/`
-abbrev pub is_plain : List ℕ → Bool
-is_plain bytes = list_all (λ byte. not ((byte == 0x25) || (byte == 0x2f))) bytes
+abbrev pub is_plain_part : List ℕ → Bool
+is_plain_part bytes = list_all (λ byte. not ((byte == 0x25) || (byte == 0x2f))) bytes
 
 -- a format is written with 1 to 24 bytes
 abbrev pub is_format_length : ℕ → Bool
 is_format_length bytes = nat_le 1 bytes && nat_le bytes 24
 
 abbrev pub is_format : Format → Bool
-is_format (formats.Text text) = is_plain text && is_format_length (length text)
+is_format (formats.Text text) = is_plain_part text && is_format_length (length text)
 is_format (formats.Letters before after) =
-    is_plain before && is_plain after && is_format_length (length before + 2 + length after)
+    is_plain_part before && is_plain_part after && is_format_length (length before + 2 + length after)
 is_format (formats.Offset before after) =
-    is_plain before && is_plain after && is_format_length (length before + 2 + length after)
+    is_plain_part before && is_plain_part after && is_format_length (length before + 2 + length after)
 is_format (formats.Pair standard daylight) =
-    is_plain standard && is_plain daylight && nat_le 1 (length standard) && nat_le 1 (length daylight)
+    is_plain_part standard && is_plain_part daylight && nat_le 1 (length standard) && nat_le 1 (length daylight)
     && is_format_length (length standard + 1 + length daylight)
