@@ -1,3 +1,4 @@
+//! Why no version stands behind that of a number.
 use std::error::Error;
 use std::fmt;
 

@@ -1,3 +1,4 @@
+//! The command `check`: whether a source is read, and how much it has.
 ghost use Rattle.tz_cli.specs.Check.{CheckAnswers};
 ghost use Rattle.tz_cli.specs.Refusal.{Gives};
 

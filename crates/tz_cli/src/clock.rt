@@ -1,3 +1,4 @@
+//! The command `clock`: a count of one clock by that of another, in whole seconds.
 ghost use Rattle.std.specs.Prelude.{◌≡◌, ◌≤◌, length, Ok, IsErr, IfOk, IfErr, OnOk, ℤ};
 ghost use Rattle.tz_cli.specs.Line.{number_line, leap_line};
 ghost use Rattle.tz_cli.specs.Conversion.{IsConvertible, IsConversionLine};

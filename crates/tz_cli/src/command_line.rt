@@ -1,3 +1,4 @@
+//! What the words of a command line stand for.
 use crate::text_word::TextWord;
 use tz_output::{Choice, Conversion};
 

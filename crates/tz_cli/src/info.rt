@@ -1,3 +1,4 @@
+//! The command `info`: the range of a zone that holds an instant, in seconds from 1970-01-01 00:00:00.
 ghost use Rattle.std.specs.Prelude.{◌≡◌, ◌<◌, ◌↔◌, IsSome, IfOk, IfErr};
 ghost use Rattle.tz_specs.specs.Expansion.{IsInstant, range_at};
 ghost use Rattle.tz_expand.specs.Zone.{expansion_of};

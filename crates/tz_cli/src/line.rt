@@ -1,3 +1,4 @@
+//! The lines that commands print, each a value spelled by `tz_output` with a newline behind it.
 ghost use Rattle.std.specs.Prelude.{◌≡◌, ◌≤◌, ◌<◌, ◌*◌, ◌^◌, ◌++◌, IfOk, OnOk};
 ghost use Rattle.std.specs.Fmt.{decimal};
 ghost use Rattle.tz_cli.specs.Line.{range_line, local_line, sys_line, move_line, day_line, number_line, leap_line, rule_count, check_line, in_file, fault_line};

@@ -1,3 +1,4 @@
+//! The command `local`: which ranges show a local time, or the instant that it stands for (C++20, [time.zone.members]).
 ghost use Rattle.std.specs.Prelude.{◌≡◌, false, IfOk, IfErr};
 ghost use Rattle.tz_types.specs.declared.range.LocalInfo.{LocalInfo};
 ghost use Rattle.tz_local.specs.LocalTime.{IsLocalTime};

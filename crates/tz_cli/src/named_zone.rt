@@ -1,3 +1,4 @@
+//! The zone of a name, read and made ready for one question.
 ghost use Rattle.std.specs.Prelude.{IfOk, IfErr};
 ghost use Rattle.tz_cli.specs.NamedZone.{IsNamedZone, RefusesZone};
 

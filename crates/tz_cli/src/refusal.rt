@@ -1,3 +1,4 @@
+//! Why a command has no text: its status, and the line that tells it.
 ghost use Rattle.std.specs.Prelude.{◌≡◌, IfOk};
 ghost use Rattle.tz_cli.specs.Refusal.{refusal_status, refusal_line};
 

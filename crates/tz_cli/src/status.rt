@@ -1,3 +1,4 @@
+//! The exit statuses of the program.
 ghost use Rattle.std.specs.Prelude.{◌≡◌};
 ghost use Rattle.tz_cli.specs.Outcome.{exit_code};
 

@@ -1,3 +1,4 @@
+//! The database of a source, or the refusal that a command prints.
 ghost use Rattle.std.specs.Prelude.{IsTrue, IfOk, IfErr};
 ghost use Rattle.tz_specs.specs.Reads.{Reads};
 ghost use Rattle.tz_specs.specs.Sound.{is_sound};

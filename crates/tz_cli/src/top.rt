@@ -1,3 +1,4 @@
+//! Every command but `batch`: from its words over the contents of its files to what it prints.
 ghost use Rattle.std.specs.Prelude.{◌≡◌, ◌≢◌, ◌⊎◌, ◌≤◌, ◌↔◌, ℕ, List, length, IfOk};
 ghost use Rattle.std.specs.List.{AllZip, Any, concat};
 ghost use Rattle.tz_types.specs.Limit.{most_bytes};

@@ -1,3 +1,4 @@
+//! The words of each command, matched one by one. Numbers are read by `tz_text`.
 ghost use Rattle.std.specs.Prelude.{◌≡◌, ℕ, List, ℤ, IsNone, IfSome};
 ghost use Rattle.tz_cli.specs.Command.{IsInfo, IsLocalCommand, IsMovesCommand, IsDaysCommand, IsTzifCommand, IsDumpCommand, IsCheck, IsClock, Command, IsCommand, words_of, meant, day_count_of, short_year_of};
 ghost use Rattle.tz_cli.specs.NamedText.{NamedText};

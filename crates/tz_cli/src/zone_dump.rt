@@ -1,3 +1,4 @@
+//! What a dump is asked for, with its zones ready.
 ghost use Rattle.tz_expand.specs.Stretch.{IsStretch};
 
 use tz_expand::CompiledZone;

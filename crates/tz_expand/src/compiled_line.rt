@@ -1,3 +1,4 @@
+//! One line of a zone with its place in time, in seconds from 1970-01-01 00:00:00.
 ghost use Rattle.std.specs.Prelude.{◌≡◌, IsTrue};
 ghost use Rattle.tz_types.specs.Amount.{IsShift};
 ghost use Rattle.tz_types.specs.Format.{is_format};

@@ -1,3 +1,4 @@
+//! A zone whose lines have their places in time.
 ghost use Rattle.std.specs.Prelude.{IsTrue};
 ghost use Rattle.tz_expand.specs.Compiled.{cover_time};
 

@@ -1,3 +1,4 @@
+//! Which calls fail, of files and of a sink in memory.
 ghost use Rattle.std.specs.Prelude.{◌≡◌};
 ghost use Rattle.tz_io.specs.Calls.{fails_at};
 

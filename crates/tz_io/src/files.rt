@@ -1,3 +1,4 @@
+//! Files that are read by name, up to a limit in bytes.
 ghost use Rattle.std.specs.Prelude.{◌≡◌, ◌≤◌, ℕ, List, Option, IfOk, OnOk, IsErrOf};
 ghost use Rattle.tz_io.specs.declared.files.FileError.TheVariants.{NoMemory};
 ghost use Rattle.tz_io.specs.Counts.{Rose};

@@ -1,3 +1,4 @@
+//! Files in memory, for tests and for proofs that speak of contents.
 ghost use Rattle.std.specs.Prelude.{◌≡◌, ◌≢◌, ◌+◌, ◌-◌, ◌^◌, ◌≤◌, ◌<◌, ℕ, List, Option, Some, IfOk, OnOk, IfSome, IsErrOf, min, take, vec_len, length};
 ghost use Rattle.tz_io.specs.Entries.{entry_contents, entry_place, entry_count};
 

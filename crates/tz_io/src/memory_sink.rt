@@ -1,3 +1,4 @@
+//! A sink in memory, for tests and for proofs that speak of what was taken.
 ghost use Rattle.std.specs.Prelude.{◌≡◌, ◌≤◌, [], IfOk, vec_len, vec_capacity};
 
 use crate::calls::is_failing;

@@ -1,3 +1,4 @@
+//! The system's files.
 ghost use Rattle.std.specs.Prelude.{◌≡◌, ◌+◌, ◌≤◌, ℕ, List, None, IfOk, vec_len};
 
 use crate::{FileError, Files};

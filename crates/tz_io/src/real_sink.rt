@@ -1,3 +1,4 @@
+//! Standard output.
 ghost use Rattle.std.specs.Prelude.{◌≡◌, None};
 
 use crate::{Failed, Sink};

@@ -1,3 +1,4 @@
+//! A sink that takes bytes, and the loop that gives it a whole text.
 ghost use Rattle.std.specs.Prelude.{◌≡◌, ◌≢◌, ◌≤◌, ◌<◌, ℕ, List, Option, Ok, Err, IfOk, OnOk, OnErr, IsErrOf, length};
 ghost use Rattle.tz_io.specs.declared.sink.PutError.TheVariants.{Failed as put_failed};
 ghost use Rattle.tz_io.specs.Counts.{Rose};

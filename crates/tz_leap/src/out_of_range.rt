@@ -1,3 +1,4 @@
+//! Why a count of a clock has no other count.
 use std::error::Error;
 use std::fmt;
 

@@ -1,3 +1,4 @@
+//! What the lines read so far have given.
 ghost use Rattle.std.specs.Prelude.{◌≤◌, length, map, IsTrue};
 ghost use Rattle.std.specs.List.{list_all};
 ghost use Rattle.tz_types.specs.Order.{ascends, name_before};

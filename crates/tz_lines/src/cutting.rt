@@ -1,3 +1,4 @@
+//! Lines, cut off a text at its newlines.
 ghost use Rattle.std.specs.Prelude.{◌≡◌, ℕ, ◌==◌, ◌<◌, ◌∷◌, Bool, false, length};
 ghost use Rattle.std.specs.List.{list_any};
 ghost use Rattle.tz_specs.specs.Line.{lines_of};

@@ -1,3 +1,4 @@
+//! Why a text isn't read.
 ghost use Rattle.std.specs.Prelude.{◌≡◌};
 ghost use Rattle.tz_types.specs.declared.fault.LineFault.{LineFault};
 ghost use Rattle.tz_lines.specs.declared.error.LineError.TheVariants as line_errors;

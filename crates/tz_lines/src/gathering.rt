@@ -1,3 +1,4 @@
+//! All lines of all files of a source, one after another.
 ghost use Rattle.std.specs.Prelude.{◌≡◌, ◌+◌, ◌<◌, ◌≤◌, ◌==◌, ◌∷◌, ℕ, false, List, Ok, IfOk, IfErr, OnOk, length, IsTrue};
 ghost use Rattle.std.specs.List.{list_any};
 ghost use Rattle.tz_types.specs.Limit.{most_bytes};

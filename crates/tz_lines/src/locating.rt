@@ -1,3 +1,4 @@
+//! The place of a zone by its name, or by that of a link.
 ghost use Rattle.std.specs.Prelude.{◌≡◌, option_map, map, length, position, find, ◌<◌, IfSome, IsTrue};
 ghost use Rattle.tz_types.specs.Order.{ascends, name_before};
 ghost use Rattle.tz_types.specs.declared.link.Link.{Link};

@@ -1,3 +1,4 @@
+//! The version that the first line of a text names.
 ghost use Rattle.std.specs.Prelude.{◌≡◌, codes};
 ghost use Rattle.tz_specs.specs.Field.{is_white};
 ghost use Rattle.tz_specs.specs.Reads.{without_white_end, version_of_line, version_of_text, version_of};

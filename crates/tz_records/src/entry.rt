@@ -1,3 +1,4 @@
+//! What one line says, before its names are looked up (zic(8), "Rule lines", "Zone lines", "Link lines").
 ghost use Rattle.std.specs.Prelude.{IsTrue};
 ghost use Rattle.tz_types.specs.Amount.{IsShift};
 ghost use Rattle.tz_types.specs.Format.{is_format};

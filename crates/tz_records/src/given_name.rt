@@ -1,3 +1,4 @@
+//! A name as its line has it.
 ghost use Rattle.std.specs.Prelude.{◌≡◌, false};
 ghost use Rattle.tz_types.specs.Text.{IsText};
 ghost use Rattle.tz_specs.specs.Value.{is_bad_name, is_long_name};

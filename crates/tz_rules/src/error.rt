@@ -1,3 +1,4 @@
+//! Why what lines gave makes no database.
 ghost use Rattle.std.specs.Prelude.{◌≡◌};
 ghost use Rattle.tz_rules.specs.declared.error.BuildError.TheVariants as errors;
 

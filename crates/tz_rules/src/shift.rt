@@ -1,3 +1,4 @@
+//! How far a clock is ahead of universal time, in seconds.
 ghost use Rattle.std.specs.Prelude.{◌≡◌, pos, neg_ℤ};
 ghost use Rattle.jiff_core.specs.Calendar.{IsBetween};
 ghost use Rattle.tz_types.specs.Amount.{IsShift};

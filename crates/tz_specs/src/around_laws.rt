@@ -1,3 +1,4 @@
+//! Laws: the range round an instant, and the change that ends it.
 ghost use Rattle.std.specs.Prelude.{◌≡◌, Bool, ℤ, ◌<ℤ◌, ◌≤ℤ◌, List, Some, IsTrue};
 ghost use Rattle.std.specs.List.{All, Contains};
 ghost use Rattle.tz_types.specs.declared.range.SysInfo.{SysInfo};

@@ -1,3 +1,4 @@
+//! Laws: what is in force before any occurrence (zic(8), "Rule lines").
 ghost use Rattle.std.specs.Prelude.{◌≡◌, ◌⊎◌, ℤ, pos, false, List, [], ℕ};
 ghost use Rattle.tz_types.specs.declared.rule_set.RuleSet.{RuleSet};
 ghost use Rattle.tz_specs.specs.Occurrence.{Occurrence, occurrences};

@@ -1,3 +1,4 @@
+//! Laws: civil years in seconds.
 ghost use Rattle.std.specs.Prelude.{◌≡◌, ◌↔◌, ℤ};
 ghost use Rattle.jiff_core.specs.Calendar.{IsYear};
 ghost use Rattle.tz_types.specs.Calendar.{LiesInYear};

@@ -1,3 +1,4 @@
+//! Laws: the clocks on which occurrences and UNTILs are read (zic(8), AT and UNTIL).
 ghost use Rattle.std.specs.Prelude.{◌≡◌, ℤ, pos, ◌+ℤ◌, Bool};
 ghost use Rattle.tz_types.specs.declared.moment.AtKind.TheVariants as kinds;
 ghost use Rattle.tz_types.specs.declared.moment.Moment.{Moment};

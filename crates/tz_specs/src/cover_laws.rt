@@ -1,3 +1,4 @@
+//! Laws: ranges cover time, and each instant lies in one.
 ghost use Rattle.std.specs.Prelude.{◌≡◌, ℕ, ◌<◌, ◌↔◌, ◌⊎◌, ℤ, ◌<ℤ◌, ◌≤ℤ◌, List, Some, None, slice_get, IsTrue};
 ghost use Rattle.tz_types.specs.declared.range.SysInfo.{SysInfo};
 ghost use Rattle.tz_specs.specs.Expansion.{Period, cuts_of, full_expansion, holds_instant, range_at};

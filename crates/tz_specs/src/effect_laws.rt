@@ -1,3 +1,4 @@
+//! Laws: which occurrence is in effect, and what it puts in force.
 ghost use Rattle.std.specs.Prelude.{◌≡◌, ℕ, suc, ◌↔◌, ◌⊎◌, ℤ, pos, ◌-ℤ◌, [], Some, slice_get};
 ghost use Rattle.jiff_core.specs.Calendar.{IsWithin};
 ghost use Rattle.tz_types.specs.Amount.{IsShift};

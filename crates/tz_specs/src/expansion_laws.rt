@@ -1,3 +1,4 @@
+//! Laws: the full expansion of a zone (C++20, [time.zone.info.sys]).
 ghost use Rattle.std.specs.Prelude.{◌≡◌, ℤ, pos, neg_ℤ, ◌*ℤ◌, Bool, [], ◌∷◌};
 ghost use Rattle.jiff_core.specs.Calendar.{days_from_civil};
 ghost use Rattle.tz_specs.specs.Until.{Nothing, Fixed};

@@ -1,3 +1,4 @@
+//! Laws: the occurrences of a rule set (zic(8), "Rule lines").
 ghost use Rattle.std.specs.Prelude.{◌≡◌, ℕ, ◌<◌, ◌↔◌, ◌⊎◌, ℤ, pos, ◌+ℤ◌, ◌-ℤ◌, ◌*ℤ◌, ◌<ℤ◌, ◌≤ℤ◌, Some, false, slice_get, IsTrue};
 ghost use Rattle.std.specs.List.{Contains};
 ghost use Rattle.jiff_core.specs.Calendar.{days_from_civil};

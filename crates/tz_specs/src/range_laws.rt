@@ -1,3 +1,4 @@
+//! Laws: where lines are cut, and the ranges between.
 ghost use Rattle.std.specs.Prelude.{◌↔◌, ℤ, ◌<ℤ◌, List};
 ghost use Rattle.std.specs.List.{Contains};
 ghost use Rattle.tz_types.specs.declared.range.SysInfo.{SysInfo};

@@ -1,3 +1,4 @@
+//! Laws: the greatest number of rules that a line of a zone follows.
 ghost use Rattle.std.specs.Prelude.{◌≡◌, ◌≤◌, ◌⊎◌, ℕ, List};
 ghost use Rattle.std.specs.List.{All, Contains};
 ghost use Rattle.tz_types.specs.Limit.{most_rules};

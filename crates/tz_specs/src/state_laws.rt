@@ -1,3 +1,4 @@
+//! Laws: the state of a rule set at an instant.
 ghost use Rattle.std.specs.Prelude.{◌≡◌, ℕ, suc, ◌<◌, ◌≤◌, ◌↔◌, ℤ, ◌<ℤ◌, ◌≤ℤ◌, List, length, Some, slice_get};
 ghost use Rattle.tz_specs.specs.State.{state_at};
 

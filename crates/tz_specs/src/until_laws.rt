@@ -1,3 +1,4 @@
+//! Laws: when lines end (zic(8), "Zone lines", UNTIL).
 ghost use Rattle.std.specs.Prelude.{◌≡◌, ◌⊎◌, ℤ, ◌<ℤ◌, ◌≤ℤ◌, Bool, List, Some, IsTrue};
 ghost use Rattle.tz_types.specs.Amount.{IsShift};
 ghost use Rattle.tz_types.specs.declared.moment.AtKind.TheVariants as kinds;

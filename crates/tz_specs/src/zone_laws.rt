@@ -1,3 +1,4 @@
+//! Laws: what is told of all times by a zone that is sound.
 ghost use Rattle.std.specs.Prelude.{◌≡◌, ℤ, pos, ◌+ℤ◌, ◌-ℤ◌, ◌<ℤ◌, ◌≤ℤ◌, Some, IsSome, IsTrue};
 ghost use Rattle.std.specs.List.{Contains};
 ghost use Rattle.jiff_core.specs.Calendar.{IsWithin};

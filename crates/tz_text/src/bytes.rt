@@ -1,3 +1,4 @@
+//! Bytes of words: letters in one case, and where one stands.
 ghost use Rattle.std.specs.Prelude.{◌≡◌, ◌<◌, ◌≤◌, ◌==◌, length, nat_eq, position, IfSome, IsTrue};
 ghost use Rattle.std.specs.List.{list_all, list_any, starts_with, zip};
 ghost use Rattle.tz_specs.specs.Word.{lower, lowered};

@@ -1,3 +1,4 @@
+//! Amounts of time, in seconds (zic(8), "Rule lines", AT and SAVE).
 ghost use Rattle.std.specs.Prelude.{◌≡◌, ◌<◌, ◌≤◌, ◌^◌, ◌*◌, length, pos, IfSome, option_map};
 ghost use Rattle.tz_types.specs.Amount.{IsTimeOfDay};
 ghost use Rattle.tz_specs.specs.Choice.{only_if};

@@ -1,3 +1,4 @@
+//! Days of a month: a number, `last` and a weekday, or a weekday with `>=` or `<=` (zic(8), "Rule lines", ON).
 ghost use Rattle.std.specs.Prelude.{◌≡◌, pos, IfSome, option_map};
 ghost use Rattle.std.specs.Int.{IsInRange};
 ghost use Rattle.tz_types.specs.declared.calendar.On.TheVariants.{Day, From, UpTo};

@@ -1,3 +1,4 @@
+//! Words cut short, and the entry of a table that one names (zic(8), "Input files").
 ghost use Rattle.std.specs.Prelude.{◌≡◌, [], map};
 ghost use Rattle.tz_specs.specs.Word.{begins_entry, only_one, places_from, named_entry};
 ghost use Rattle.tz_text.specs.Places.{only_with};

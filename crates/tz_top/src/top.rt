@@ -1,3 +1,4 @@
+//! The top call: every command, `batch` among them.
 ghost use Rattle.std.specs.Prelude.{◌≡◌, ◌≢◌, ◌⊎◌, ℕ, List};
 ghost use Rattle.std.specs.List.{AllZip, Any};
 ghost use Rattle.tz_io.specs.Counts.{Rose};

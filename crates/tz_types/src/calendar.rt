@@ -1,3 +1,4 @@
+//! Months, weekdays and days of a month in the proleptic Gregorian calendar (zic(8), "Rule lines", IN and ON).
 ghost use Rattle.std.specs.Prelude.{◌≡◌, ℕ, ◌+◌, ◌-◌, ◌<◌, ◌≤◌, pos, neg_ℤ, ◌+ℤ◌, ◌-ℤ◌, ◌≤ℤ◌, ◌<ℤ◌, IsTrue};
 ghost use Rattle.std.specs.Int.{IsInRange};
 ghost use Rattle.jiff_core.specs.Calendar.{days_from_civil, days_in_month, is_leap_year, weekday_number, IsBetween, IsYear, IsEpochDay};

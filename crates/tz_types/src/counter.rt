@@ -1,3 +1,4 @@
+//! How many steps a call took.
 ghost use Rattle.std.specs.Prelude.{◌≡◌, ◌+◌, ◌<◌};
 
 use std::marker::Model;

@@ -1,3 +1,4 @@
+//! What a source says as a whole (C++20, [time.zone.db.tzdb]).
 ghost use Rattle.std.specs.Prelude.{◌≤◌, length, map, IsTrue};
 ghost use Rattle.tz_types.specs.Order.{ascends, name_before};
 ghost use Rattle.tz_types.specs.Limit.{most_sets, most_zones, most_links};

@@ -1,3 +1,4 @@
+//! Formats of abbreviations (zic(8), "Zone lines", FORMAT).
 use crate::Abbrev;
 
 /// How a line's abbreviation is written.

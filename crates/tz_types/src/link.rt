@@ -1,3 +1,4 @@
+//! Links: further names of zones (zic(8), "Link lines"; C++20, [time.zone.link]).
 use crate::Label;
 
 /// Another name for a zone. `zone` is the place, in the list of zones, of the zone that the targets reach.

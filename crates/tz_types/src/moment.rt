@@ -1,3 +1,4 @@
+//! A time within a year, and the clock that it is read from (zic(8), "Rule lines", AT).
 ghost use Rattle.std.specs.Prelude.{◌≡◌, pos, neg_ℤ, ◌+ℤ◌, ◌*ℤ◌, IsTrue};
 ghost use Rattle.jiff_core.specs.Calendar.{IsBetween};
 ghost use Rattle.tz_types.specs.Year.{IsRuleYear};

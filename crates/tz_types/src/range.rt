@@ -1,3 +1,4 @@
+//! Ranges of a zone, and what a local time stands for (C++20, [time.zone.info]).
 use crate::Abbrev;
 
 /// One range of a zone: from `begin` up to but excluding `end`, local time is `offset` seconds ahead

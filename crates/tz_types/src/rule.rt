@@ -1,3 +1,4 @@
+//! Rules (zic(8), "Rule lines").
 ghost use Rattle.std.specs.Prelude.{◌≤ℤ◌, IsTrue};
 ghost use Rattle.tz_types.specs.Year.{IsWrittenYear};
 ghost use Rattle.tz_types.specs.Amount.{IsTimeOfDay, IsShift};

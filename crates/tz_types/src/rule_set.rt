@@ -1,3 +1,4 @@
+//! Rules of one name.
 ghost use Rattle.std.specs.Prelude.{◌≤◌, length, map, nat_lt, IsTrue};
 ghost use Rattle.tz_types.specs.Order.{ascends};
 ghost use Rattle.tz_types.specs.Limit.{most_rules};

@@ -1,3 +1,4 @@
+//! Values that several owners share.
 ghost use Rattle.std.specs.Prelude.{◌≡◌, IfOk};
 
 use crate::NoMemory;

@@ -1,3 +1,4 @@
+//! Small texts of visible ASCII: names, letters, abbreviations and versions.
 ghost use Rattle.std.specs.Prelude.{◌≡◌, ◌≤◌, ◌↔◌, [], length, IsTrue, IsOk, IfOk};
 ghost use Rattle.std.specs.List.{list_all};
 ghost use Rattle.tz_types.specs.Text.{is_printable, IsText};

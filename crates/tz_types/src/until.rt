@@ -1,3 +1,4 @@
+//! When a line of a zone ends (zic(8), "Zone lines", UNTIL).
 ghost use Rattle.std.specs.Prelude.{IsTrue};
 ghost use Rattle.tz_types.specs.Year.{IsRuleYear};
 ghost use Rattle.tz_types.specs.Amount.{IsTimeOfDay};

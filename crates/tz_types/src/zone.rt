@@ -1,3 +1,4 @@
+//! Zones (zic(8), "Zone lines"; C++20, [time.zone.timezone]).
 use crate::{Items, Label, ZoneLine};
 
 /// A zone's name and its lines, in the order of time.

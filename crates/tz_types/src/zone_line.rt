@@ -1,3 +1,4 @@
+//! Lines of zones, with amounts in seconds (zic(8), "Zone lines").
 ghost use Rattle.std.specs.Prelude.{IsTrue};
 ghost use Rattle.tz_types.specs.Amount.{IsShift};
 ghost use Rattle.tz_types.specs.Format.{is_format};
