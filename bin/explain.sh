@@ -10,9 +10,14 @@ tables() {
     ' "$top/docs/FORMATS.md"
 }
 
-# What their first row that begins with a number has in a column.
+# What their rows that begin with a number have in a column, a line each.
+cells() {
+    tables "$1" | awk -F ' *[|] *' -v number="$2" -v column="$3" '$2 == number { print $column }'
+}
+
+# What the first of these rows has there.
 cell() {
-    tables "$1" | awk -F ' *[|] *' -v number="$2" -v column="$3" '$2 == number { print $column; exit }'
+    cells "$@" | head -n 1
 }
 
 # The forms of all commands.
@@ -30,10 +35,11 @@ file_of() {
     printf '%s\n' "$1" | awk -F , -v file="$2" '{ print $(file + ($1 ~ /^=/ ? 1 : 0)) }'
 }
 
-# Tells what is wrong with a line of a file, and the line's own text.
+# Tells what is wrong with a line of a file, the line's own text, and what to do about it, where that is known.
 tell_line() {
     printf '%s, line %s: %s\n' "$1" "$2" "$3"
     [ -f "$1" ] && sed -n "${2}p;${2}q" -- "$1" | cut -c 1-120 | sed 's/^/    /'
+    [ -z "$4" ] || printf 'What to do: %s.\n' "$4"
 }
 
 # Tells a refused text: where it is refused, the line's own text, and what is wrong with it. The words follow the refusal's
@@ -42,13 +48,16 @@ explain_text() {
     number=1
     [ "$#" -gt 4 ] && [ "$4" = in ] && number=$5
     named=$text
-    [ "$1" = leaps ] && named=$leaps
-    tell_line "$(file_of "$named" "$number")" "$2" "$(cell Cause "$3" 3)"
+    # A cause that both tables have means in leap texts what the later one says.
+    first_or_last=head
+    [ "$1" = leaps ] && named=$leaps first_or_last=tail
+    tell_line "$(file_of "$named" "$number")" "$2" "$(cells Cause "$3" 3 | $first_or_last -n 1)" \
+        "$(cells Cause "$3" 6 | $first_or_last -n 1)"
 }
 
 # The same of a script. The words follow `script LINE CAUSE`.
 explain_script() {
-    tell_line "$script" "$2" "$(cell 'Cause of a script' "$3" 3)"
+    tell_line "$script" "$2" "$(cell 'Cause of a script' "$3" 3)" ""
 }
 
 # Explains a status other than 0, of the words that follow it.
