@@ -57,7 +57,8 @@ explain_text() {
 
 # The same of a script. The words follow `script LINE CAUSE`.
 explain_script() {
-    tell_line "$script" "$2" "$(cell 'Cause of a script' "$3" 3)" ""
+    tell_line "$script" "$2" "$(cell 'Cause of a script' "$3" 3)" \
+        "$(cell 'Cause of a script' "$3" 6)"
 }
 
 # Explains a status other than 0, of the words that follow it.
