@@ -36,6 +36,14 @@ after_is_from mark occurrence h =
     omega (arith, ints, same))
     (or_cases (int_lt mark.second (nominal_of occurrence)) (int_eq mark.second (nominal_of occurrence) && nat_lt mark.line occurrence.rule.line) h)
 
+-- a rule that is over before the earliest year has no occurrence after the mark
+pub over_first : (rule : Rule) (place : ℕ) (earliest through : ℤ) (mark : Mark) → IsEarliestYear mark.second earliest → rule.to <ℤ earliest → IsFirstOfRule rule place through mark None
+over_first rule place earliest through mark is_earliest over = λ year occurs up_to.
+    false_from_ne_true (is_after mark (in_year rule year))
+    (λ after.
+    let from = is_earliest.none_earlier rule year occurs (after_is_from mark (in_year rule year) after) in
+    omega (arith, ints, occurs.through))
+
 -- ---- one rule, from its first year up
 abbrev pub NoneBelow : Rule → ℤ → ℤ → Mark → Type 0
 NoneBelow rule through bottom mark =

@@ -255,6 +255,10 @@ last_with_is set mark place rule (Some last) (Some found) here so_far own =
     (λ later. rw later (last_some_later set mark place rule last found here so_far own later))
     (λ not_later. rw not_later (last_some_earlier set mark place rule last found here so_far own not_later))
 
+-- a rule that is over before a year has no occurrence from that year on
+pub over_before : (rule : Rule) (place : ℕ) (since : ℤ) (mark : Mark) → rule.to <ℤ since → IsLastOfRule rule place since mark None
+over_before rule place since mark over = λ year occurs from. absurd (omega (arith, ints, occurs.through))
+
 pub rule_at : (set : RuleSet) (rules : List Rule) (place : ℕ) (rule : Rule) → rules ≡ set.rules → place < length set.rules → rule ≡ get_or rules place rule → slice_get set.rules place ≡ Some rule
 rule_at set rules place rule is within at =
     let at' : rule ≡ get_or set.rules place rule = rw is at at in

@@ -12,6 +12,7 @@ use Rattle.tz_specs.specs.Value.{is_exactly}
 use Rattle.tz_specs.specs.Whole.{fault_where, repeated_name}
 use Rattle.tz_rules.specs.FirstLine.{first_line, lesser_line, has_lesser_line, later_name}
 
+-- names that compare as equal are the same, for maps whose keys are labels
 pub same_name : (name other : List ℕ) → is_eq (slice_cmp nat_cmp name other) ≡ is_exactly name other
 same_name name other = is_eq-slice_cmp name other
 
@@ -58,6 +59,6 @@ by_name get_old name other line least true e is =
 by_name get_old name other line least false e is = refl
 
 -- the least lines, where one more is noted
-pub noted : (get_old : List ℕ → Option ℕ) (name other : List ℕ) (line least : ℕ) (new : Option ℕ) → new ≡ cond (is_eq (slice_cmp nat_cmp name other)) (Some least) (get_old other) → Some least ≡ lesser_line (get_old name) line → new ≡ (if is_exactly name other then lesser_line (get_old other) line else get_old other)
+pub noted : (get_old : List ℕ → Option ℕ) (name other : List ℕ) (line least : ℕ) (new : Option ℕ) → new ≡ cond (is_exactly name other) (Some least) (get_old other) → Some least ≡ lesser_line (get_old name) line → new ≡ (if is_exactly name other then lesser_line (get_old other) line else get_old other)
 noted get_old name other line least new e is =
-    e ∙ ap (λ same. cond same (Some least) (get_old other)) (same_name name other) ∙ by_name get_old name other line least (is_exactly name other) refl is
+    e ∙ by_name get_old name other line least (is_exactly name other) refl is

@@ -1,12 +1,9 @@
 -- Where names lead: what is noted of them, and what stands there.
 use Rattle.std.proofs.Common.{◌≡◌, ℕ, suc, ◌+◌, cond, if◌then◌else◌, List, [], ◌∷◌, ◌++◌, length, map, Option, Some, refl, sym, ap, ◌∙◌, arith}
-use Rattle.std.specs.Ordering.{nat_cmp, is_eq}
-use Rattle.std.specs.Cmp.Lexicographic.{slice_cmp}
 use Rattle.std.proofs.lemmas.List.{map-append, length-map}
 use Rattle.tz_specs.specs.Value.{is_exactly}
 use Rattle.tz_rules.specs.declared.stop.Stop.{Stop}
 use Rattle.tz_rules.specs.Stops.{first_stop}
-use Rattle.tz_rules.proofs.FirstLines.{same_name}
 
 module _ (stop_at : ℕ → Stop) (name : List ℕ) where
   -- one more name behind some others
@@ -17,10 +14,10 @@ module _ (stop_at : ℕ → Stop) (name : List ℕ) where
       rw later (ap (λ rest. if is_exactly other name then Some (stop_at place) else rest) (first-last (suc place) names last known))
 
   -- what is known, when the last of some is noted
-  pub noted_last : {A : Type 0} (name_of : A → List ℕ) (before rest : List A) (x : A) (place : ℕ) (old new : Option Stop) → before ≡ rest ++ x ∷ [] → place ≡ length rest → new ≡ cond (is_eq (slice_cmp nat_cmp (name_of x) name)) (Some (stop_at place)) old → first_stop stop_at 0 name (map name_of rest) new ≡ first_stop stop_at 0 name (map name_of before) old
+  pub noted_last : {A : Type 0} (name_of : A → List ℕ) (before rest : List A) (x : A) (place : ℕ) (old new : Option Stop) → before ≡ rest ++ x ∷ [] → place ≡ length rest → new ≡ cond (is_exactly (name_of x) name) (Some (stop_at place)) old → first_stop stop_at 0 name (map name_of rest) new ≡ first_stop stop_at 0 name (map name_of before) old
   noted_last {A} name_of before rest x place old new is here e =
       let names : map name_of before ≡ map name_of rest ++ name_of x ∷ [] = ap (map name_of) is ∙ map-append name_of rest (x ∷ []) in
       let at : place ≡ 0 + length (map name_of rest) = omega (arith, length-map rest name_of) in
       let last : new ≡ (if is_exactly (name_of x) name then Some (stop_at (0 + length (map name_of rest))) else old) =
-      e ∙ ap (λ same. cond same (Some (stop_at place)) old) (same_name (name_of x) name) ∙ ap (λ at. if is_exactly (name_of x) name then Some (stop_at at) else old) at in
+      e ∙ ap (λ at. if is_exactly (name_of x) name then Some (stop_at at) else old) at in
       rw names (rw last (sym (first-last 0 (map name_of rest) (name_of x) old)))

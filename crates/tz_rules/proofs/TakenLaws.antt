@@ -13,7 +13,7 @@ use Rattle.tz_rules.specs.declared.next_change.Coming.{Coming}
 use Rattle.tz_rules.specs.Placed.{Placed}
 use Rattle.tz_rules.specs.InEffect.{IsAsGoodAs, IsState}
 use Rattle.tz_rules.specs.NextChange.{IsNext, IsNextAfter}
-use Rattle.tz_rules.specs.Taken.{Tells, IsTakenAt, IsLastTaken, IsNextTaken}
+use Rattle.tz_rules.specs.Taken.{IsTakenOccurrence, IsTakenAt, IsLastTaken, IsNextTaken}
 use Rattle.tz_rules.proofs.Instants.{comes_in_time}
 
 -- ---- an instant by which the same have come
@@ -86,11 +86,11 @@ next_change_far set stdoff t near change within same next =
     }
 
 -- ---- what is told
-pub taken_at : (set : RuleSet) (stdoff t near : ℤ) (found : Placed) (taken : Taken) → IsShift stdoff → IsAsGoodAs t near → IsState set stdoff near (Some found) → Tells set taken found.occurrence → ComesAt set stdoff found.occurrence taken.at → IsTakenAt set stdoff t taken
+pub taken_at : (set : RuleSet) (stdoff t near : ℤ) (found : Placed) (taken : Taken) → IsShift stdoff → IsAsGoodAs t near → IsState set stdoff near (Some found) → IsTakenOccurrence set taken found.occurrence → ComesAt set stdoff found.occurrence taken.at → IsTakenAt set stdoff t taken
 taken_at set stdoff t near found taken within same state tells comes =
     (found.occurrence, tells, in_effect_far set stdoff t near found.occurrence within same state.1, comes)
 
-pub next_taken_at : (set : RuleSet) (stdoff t near : ℤ) (coming : Coming) (taken : Taken) → IsShift stdoff → IsAsGoodAs t near → IsNext set stdoff near coming → Tells set taken coming.occurrence.occurrence → taken.at ≡ coming.at → IsNextTaken set stdoff t (Some taken)
+pub next_taken_at : (set : RuleSet) (stdoff t near : ℤ) (coming : Coming) (taken : Taken) → IsShift stdoff → IsAsGoodAs t near → IsNext set stdoff near coming → IsTakenOccurrence set taken coming.occurrence.occurrence → taken.at ≡ coming.at → IsNextTaken set stdoff t (Some taken)
 next_taken_at set stdoff t near coming taken within same next tells at = (
   rw at (next_change_far set stdoff t near coming.at within same next.change),
   (coming.occurrence.occurrence, tells, rw at next.in_effect, rw at next.comes),

@@ -12,6 +12,7 @@ pub mod Told
 pub mod NamePlace
 pub mod FirstLine
 pub mod Continued
+pub mod NameMap
 pub mod Parts
 pub mod LineOrder
 pub mod Built

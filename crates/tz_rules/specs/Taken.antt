@@ -7,14 +7,14 @@ use Rattle.tz_specs.specs.Around.{IsToCome, IsNextChange}
 use Rattle.tz_rules.specs.declared.taken.Taken.{Taken}
 
 -- the occurrence of the rule at that place of the set, in that year
-pub record Tells (set : RuleSet) (taken : Taken) (occurrence : Occurrence) : Type 0 where
+pub record IsTakenOccurrence (set : RuleSet) (taken : Taken) (occurrence : Occurrence) : Type 0 where
   pub rule : slice_get set.rules taken.rule ≡ Some occurrence.rule
   pub year : occurrence.year ≡ taken.year
 
 -- it is in effect at t, and its own instant is the one told
 abbrev pub IsTakenAt : RuleSet → ℤ → ℤ → Taken → Type 0
 IsTakenAt set stdoff t taken =
-    (occurrence : Occurrence) × Tells set taken occurrence × IsInEffect set stdoff t occurrence × ComesAt set stdoff occurrence taken.at
+    (occurrence : Occurrence) × IsTakenOccurrence set taken occurrence × IsInEffect set stdoff t occurrence × ComesAt set stdoff occurrence taken.at
 
 -- what is in effect at t is told, and nothing where nothing is in effect
 abbrev pub IsLastTaken : RuleSet → ℤ → ℤ → Option Taken → Type 0

@@ -76,6 +76,9 @@ fn first_with<'a, L: Ledger>(
     ensures steps { steps.new ≤ steps.old + 3 }
 {
     let rule = &set.rules.as_slice()[place];
+    if rule.to < earliest {
+        return first;
+    }
     let through = year_through(&first);
     match first_of_rule(rule, place, earliest, through, mark, steps) {
         None => first,

@@ -76,6 +76,9 @@ fn last_with<'a, L: Ledger>(
 {
     let rule = &set.rules.as_slice()[place];
     let since = year_since(&last);
+    if rule.to < since {
+        return last;
+    }
     match last_of_rule(rule, place, since, latest, mark, steps) {
         None => last,
         Some(found) => Some(later(last, found)),

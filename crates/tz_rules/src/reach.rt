@@ -1,30 +1,28 @@
 //! The zones that links reach: the zone of the target's name, or what the target of the earliest link of that name reaches.
 ghost use Rattle.std.specs.Prelude.{◌≡◌, ◌≤◌, ℕ, false, [], List, length, map, IfOk};
-ghost use Rattle.std.specs.Ordering.{nat_cmp};
-ghost use Rattle.std.specs.Cmp.Lexicographic.{slice_cmp};
-ghost use Rattle.std.specs.BTreeMap.{get};
 ghost use Rattle.tz_types.specs.Limit.{most_zones, most_links};
 ghost use Rattle.tz_specs.specs.Written.{written_zone, written_link};
 ghost use Rattle.tz_specs.specs.Whole.{zone_of_link};
+ghost use Rattle.tz_rules.specs.NameMap.{known_of};
 ghost use Rattle.tz_rules.specs.Reach.{name_at};
 ghost use Rattle.tz_rules.specs.Stops.{targets_of, next_stop, stop_after, zone_place};
 
 use crate::stop::{Stop, known_stops, stop_of};
 use std::alloc::Global;
-use std::collections::BTreeMap;
-use tz_types::{Label, Link, NoMemory, Zone};
+use std::collections::HashMap;
+use tz_types::{Link, NoMemory, Zone};
 
 /// Where the target of each link leads.
 fn targets_of(
     alloc: Global,
-    known: &BTreeMap<Label, Stop>,
+    known: &HashMap<&[u8], Stop>,
     links: &[Link],
 ) -> Result<Vec<Stop>, NoMemory>
-    ensures { IfOk result (λ targets. targets.items ≡ targets_of (get (slice_cmp nat_cmp) known.now) links.now) }
+    ensures { IfOk result (λ targets. targets.items ≡ targets_of (known_of known.now) links.now) }
 {
     let targets = links
         .iter()
-        .map(|link| stop_of(known, &link.target))
+        .map(|link| stop_of(known, link.target.as_bytes()))
         .collect::<Vec<_>>(alloc)?;
     Ok(targets)
 }

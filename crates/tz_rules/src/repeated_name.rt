@@ -1,11 +1,9 @@
 //! Names that an earlier line gives too, to a zone or a link.
 ghost use Rattle.std.specs.Prelude.{◌≡◌, ℕ, [], ◌∷◌, List, Some, None, map, filter_map, IfOk, OnOk};
-ghost use Rattle.std.specs.Ordering.{nat_cmp};
-ghost use Rattle.std.specs.Cmp.Lexicographic.{slice_cmp};
-ghost use Rattle.std.specs.BTreeMap.{get};
 ghost use Rattle.std.specs.Option.{option_to_list};
 ghost use Rattle.tz_specs.specs.Written.{written_zone, written_link};
 ghost use Rattle.tz_specs.specs.Whole.{zone_name, names_given, repeated_name};
+ghost use Rattle.tz_rules.specs.NameMap.{known_of};
 ghost use Rattle.tz_rules.specs.Parts.{contents_given};
 ghost use Rattle.tz_rules.specs.Told.{told_with};
 ghost use Rattle.tz_rules.specs.FirstLine.{first_line, lesser_line, later_name};
@@ -13,8 +11,8 @@ ghost use Rattle.tz_rules.specs.FirstLine.{first_line, lesser_line, later_name};
 use crate::parts::Parts;
 use crate::telling::Told;
 use std::alloc::Global;
-use std::collections::BTreeMap;
-use tz_types::{Cause, Label, NoMemory};
+use std::collections::HashMap;
+use tz_types::{Cause, NoMemory};
 
 /// The lesser of the least line so far, if there is one, and another.
 fn lesser(least: Option<u32>, line: u32) -> u32
@@ -27,76 +25,76 @@ fn lesser(least: Option<u32>, line: u32) -> u32
 }
 
 /// Keeps the line, where no lesser one has given the name.
-fn note(lines: &mut BTreeMap<Label, u32>, name: &Label, line: u32) -> Result<(), NoMemory>
+fn note<'a>(lines: &mut HashMap<&'a [u8], u32>, name: &'a [u8], line: u32) -> Result<(), NoMemory>
     ensures { OnOk result ((other : List ℕ) →
-        get (slice_cmp nat_cmp) lines.new other ≡ first_line other (get (slice_cmp nat_cmp) lines.old other) ((name.now, line) ∷ [])) }
+        known_of lines.new other ≡ first_line other (known_of lines.old other) ((name.now, line) ∷ [])) }
 {
     let least = lesser(lines.get(name).copied(), line);
-    lines.insert(name.copied(), least)?;
+    lines.insert(name, least)?;
     Ok(())
 }
 
-fn note_zones(lines: &mut BTreeMap<Label, u32>, parts: &Parts) -> Result<(), NoMemory>
+fn note_zones<'a>(lines: &mut HashMap<&'a [u8], u32>, parts: &'a Parts) -> Result<(), NoMemory>
     ensures { OnOk result ((other : List ℕ) →
-        get (slice_cmp nat_cmp) lines.new other
-        ≡ first_line other (get (slice_cmp nat_cmp) lines.old other) (filter_map zone_name (map (written_zone parts.now.names) parts.now.zones))) }
+        known_of lines.new other
+        ≡ first_line other (known_of lines.old other) (filter_map zone_name (map (written_zone parts.now.names) parts.now.zones))) }
 {
     for zone in parts.zones.as_slice() {
         if let Some(first) = zone.lines.as_slice().first() {
-            note(lines, &zone.name, first.line)?;
+            note(lines, zone.name.as_bytes(), first.line)?;
         }
     }
     Ok(())
 }
 
-fn note_links(lines: &mut BTreeMap<Label, u32>, parts: &Parts) -> Result<(), NoMemory>
+fn note_links<'a>(lines: &mut HashMap<&'a [u8], u32>, parts: &'a Parts) -> Result<(), NoMemory>
     ensures { OnOk result ((other : List ℕ) →
-        get (slice_cmp nat_cmp) lines.new other
-        ≡ first_line other (get (slice_cmp nat_cmp) lines.old other) (map (λ link. (link.name, link.line)) (map written_link parts.now.links))) }
+        known_of lines.new other
+        ≡ first_line other (known_of lines.old other) (map (λ link. (link.name, link.line)) (map written_link parts.now.links))) }
 {
     for link in parts.links.as_slice() {
-        note(lines, &link.name, link.line)?;
+        note(lines, link.name.as_bytes(), link.line)?;
     }
     Ok(())
 }
 
 /// The least line of each name.
-fn first_lines(alloc: Global, parts: &Parts) -> Result<BTreeMap<Label, u32>, NoMemory>
+fn first_lines<'a>(alloc: Global, parts: &'a Parts) -> Result<HashMap<&'a [u8], u32>, NoMemory>
     ensures { IfOk result (λ lines. (name : List ℕ) →
-        get (slice_cmp nat_cmp) lines name ≡ first_line name None (names_given (contents_given parts.now))) }
+        known_of lines name ≡ first_line name None (names_given (contents_given parts.now))) }
 {
-    let mut lines = BTreeMap::new(alloc);
+    let mut lines = HashMap::new(alloc);
     note_zones(&mut lines, parts)?;
     note_links(&mut lines, parts)?;
     Ok(lines)
 }
 
 /// Tells the line, where a lesser one gives the name.
-fn tell_later(told: &mut Told, lines: &BTreeMap<Label, u32>, name: &Label, line: u32)
-    ensures { told.new.least ≡ told_with told.old.least (option_to_list (later_name (get (slice_cmp nat_cmp) lines.now) (name.now, line))) }
+fn tell_later(told: &mut Told, lines: &HashMap<&[u8], u32>, name: &[u8], line: u32)
+    ensures { told.new.least ≡ told_with told.old.least (option_to_list (later_name (known_of lines.now) (name.now, line))) }
 {
     if let Some(least) = lines.get(name) {
         told.tell_where(*least < line, line, Cause::DuplicateName);
     }
 }
 
-fn tell_later_zones(told: &mut Told, lines: &BTreeMap<Label, u32>, parts: &Parts)
+fn tell_later_zones(told: &mut Told, lines: &HashMap<&[u8], u32>, parts: &Parts)
     ensures { told.new.least ≡ told_with told.old.least
-        (filter_map (later_name (get (slice_cmp nat_cmp) lines.now)) (filter_map zone_name (map (written_zone parts.now.names) parts.now.zones))) }
+        (filter_map (later_name (known_of lines.now)) (filter_map zone_name (map (written_zone parts.now.names) parts.now.zones))) }
 {
     for zone in parts.zones.as_slice() {
         if let Some(first) = zone.lines.as_slice().first() {
-            tell_later(told, lines, &zone.name, first.line);
+            tell_later(told, lines, zone.name.as_bytes(), first.line);
         }
     }
 }
 
-fn tell_later_links(told: &mut Told, lines: &BTreeMap<Label, u32>, parts: &Parts)
+fn tell_later_links(told: &mut Told, lines: &HashMap<&[u8], u32>, parts: &Parts)
     ensures { told.new.least ≡ told_with told.old.least
-        (filter_map (later_name (get (slice_cmp nat_cmp) lines.now)) (map (λ link. (link.name, link.line)) (map written_link parts.now.links))) }
+        (filter_map (later_name (known_of lines.now)) (map (λ link. (link.name, link.line)) (map written_link parts.now.links))) }
 {
     for link in parts.links.as_slice() {
-        tell_later(told, lines, &link.name, link.line);
+        tell_later(told, lines, link.name.as_bytes(), link.line);
     }
 }
 

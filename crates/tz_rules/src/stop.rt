@@ -1,15 +1,13 @@
 //! Where names lead: to a zone, or to a link that leads on.
 ghost use Rattle.std.specs.Prelude.{◌≡◌, ◌≤◌, ℕ, List, length, IfOk, OnOk};
-ghost use Rattle.std.specs.Ordering.{nat_cmp};
-ghost use Rattle.std.specs.Cmp.Lexicographic.{slice_cmp};
-ghost use Rattle.std.specs.BTreeMap.{get};
 ghost use Rattle.tz_types.specs.Limit.{most_zones, most_links};
+ghost use Rattle.tz_rules.specs.NameMap.{known_of};
 ghost use Rattle.tz_rules.specs.Stops.{zone_names, link_names, first_stop, known_stop, stop_of};
 ghost use Rattle.tz_rules.specs.declared.stop.Stop.TheVariants as stops;
 
 use std::alloc::Global;
-use std::collections::BTreeMap;
-use tz_types::{Label, Link, NoMemory, Zone};
+use std::collections::HashMap;
+use tz_types::{Link, NoMemory, Zone};
 
 /// The place of a zone among the zones, or of a link among the links; or no zone and no link has the name.
 #[derive(Clone, Copy, Debug, PartialEq, Eq)]
@@ -20,50 +18,50 @@ pub enum Stop {
 }
 
 /// Notes the zones from the last to the first, so that the first of a name is what stays.
-fn note_zones(known: &mut BTreeMap<Label, Stop>, zones: &[Zone]) -> Result<(), NoMemory>
+fn note_zones<'a>(known: &mut HashMap<&'a [u8], Stop>, zones: &'a [Zone]) -> Result<(), NoMemory>
     requires few { length zones.now ≤ most_zones }
     ensures { OnOk result ((name : List ℕ) →
-        get (slice_cmp nat_cmp) known.new name
-        ≡ first_stop stops.Zone 0 name (zone_names zones.now) (get (slice_cmp nat_cmp) known.old name)) }
+        known_of known.new name
+        ≡ first_stop stops.Zone 0 name (zone_names zones.now) (known_of known.old name)) }
 {
     for (place, zone) in zones.iter().enumerate().rev() {
-        known.insert(zone.name.copied(), Stop::Zone(place as u32))?;
+        known.insert(zone.name.as_bytes(), Stop::Zone(place as u32))?;
     }
     Ok(())
 }
 
 /// Notes the links from the last to the first, so that the first of a name is what stays.
-fn note_links(known: &mut BTreeMap<Label, Stop>, links: &[Link]) -> Result<(), NoMemory>
+fn note_links<'a>(known: &mut HashMap<&'a [u8], Stop>, links: &'a [Link]) -> Result<(), NoMemory>
     requires few { length links.now ≤ most_links }
     ensures { OnOk result ((name : List ℕ) →
-        get (slice_cmp nat_cmp) known.new name
-        ≡ first_stop stops.Link 0 name (link_names links.now) (get (slice_cmp nat_cmp) known.old name)) }
+        known_of known.new name
+        ≡ first_stop stops.Link 0 name (link_names links.now) (known_of known.old name)) }
 {
     for (place, link) in links.iter().enumerate().rev() {
-        known.insert(link.name.copied(), Stop::Link(place as u32))?;
+        known.insert(link.name.as_bytes(), Stop::Link(place as u32))?;
     }
     Ok(())
 }
 
 /// Where each name leads; a zone comes before a link of its name.
-pub fn known_stops(
+pub fn known_stops<'a>(
     alloc: Global,
-    zones: &[Zone],
-    links: &[Link],
-) -> Result<BTreeMap<Label, Stop>, NoMemory>
+    zones: &'a [Zone],
+    links: &'a [Link],
+) -> Result<HashMap<&'a [u8], Stop>, NoMemory>
     requires few_zones { length zones.now ≤ most_zones }
     requires few_links { length links.now ≤ most_links }
-    ensures { IfOk result (λ known. (name : List ℕ) → get (slice_cmp nat_cmp) known name ≡ known_stop zones.now links.now name) }
+    ensures { IfOk result (λ known. (name : List ℕ) → known_of known name ≡ known_stop zones.now links.now name) }
 {
-    let mut known = BTreeMap::new(alloc);
+    let mut known = HashMap::new(alloc);
     note_links(&mut known, links)?;
     note_zones(&mut known, zones)?;
     Ok(known)
 }
 
 /// Where the name leads.
-pub fn stop_of(known: &BTreeMap<Label, Stop>, name: &Label) -> Stop
-    ensures { result ≡ stop_of (get (slice_cmp nat_cmp) known.now) name.now }
+pub fn stop_of(known: &HashMap<&[u8], Stop>, name: &[u8]) -> Stop
+    ensures { result ≡ stop_of (known_of known.now) name.now }
 {
     known.get(name).copied().unwrap_or(Stop::Nowhere)
 }

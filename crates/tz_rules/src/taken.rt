@@ -5,7 +5,7 @@ ghost use Rattle.tz_specs.specs.Occurrence.{Occurrence};
 ghost use Rattle.tz_specs.specs.Effect.{NoneInEffect};
 ghost use Rattle.tz_specs.specs.Around.{IsToCome, IsNextChange};
 ghost use Rattle.tz_rules.specs.Placed.{StandsIn};
-ghost use Rattle.tz_rules.specs.Taken.{Tells, IsTakenAt, IsLastTaken, IsNextTaken};
+ghost use Rattle.tz_rules.specs.Taken.{IsTakenOccurrence, IsTakenAt, IsLastTaken, IsNextTaken};
 
 use crate::coming::instant_of;
 use crate::in_effect::{in_effect, near_time};
@@ -25,7 +25,7 @@ pub struct Taken {
 /// The occurrence as it is told.
 fn taken_of(set: &RuleSet, occurrence: &RuleYear<'_>, at: i64) -> Taken
     requires { StandsIn set.now occurrence.now }
-    ensures tells { Tells set.now result occurrence.now.occurrence }
+    ensures tells { IsTakenOccurrence set.now result occurrence.now.occurrence }
     ensures at { result.at ≡ at }
 {
     let _ = set;

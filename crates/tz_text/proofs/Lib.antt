@@ -1,4 +1,5 @@
 pub mod Power
+pub mod Letters
 pub mod Marks
 pub mod Sizes
 pub mod Suffixes

@@ -47,11 +47,16 @@ pub one_part : (mark : ℕ) (word part : List ℕ) → parts_at mark word ≡ pa
 one_part mark word part one =
     sym (join_with_byte-slice_split mark word) ∙ ap (join_with_byte mark) (sym (parts_split mark word) ∙ one)
 
--- digits have no point among them
-pub digits_unmarked : (word : List ℕ) → list_all is_digit word ≡ true → parts_at 0x2e word ≡ word ∷ []
-digits_unmarked [] digits = refl
-digits_unmarked (byte ∷ bytes) digits =
+-- digits have no other byte among them
+pub digits_unmarked : (mark : ℕ) (word : List ℕ) → ((byte : ℕ) → is_digit byte ≡ true → (byte == mark) ≡ false) → list_all is_digit word ≡ true → parts_at mark word ≡ word ∷ []
+digits_unmarked mark [] other digits = refl
+digits_unmarked mark (byte ∷ bytes) other digits =
     let rest : list_all is_digit bytes ≡ true = grind arith in
     let first : is_digit byte ≡ true = grind arith in
-    let unlike : (byte == 0x2e) ≡ false = grind arith in
-    rw (unlike, digits_unmarked bytes rest) refl
+    rw (other byte first, digits_unmarked mark bytes other rest) refl
+
+pub no_point : (byte : ℕ) → is_digit byte ≡ true → (byte == 0x2e) ≡ false
+no_point byte digit = grind arith
+
+pub no_colon : (byte : ℕ) → is_digit byte ≡ true → (byte == 0x3a) ≡ false
+no_colon byte digit = grind arith

@@ -1,5 +1,5 @@
 -- An amount's size by its first part and what follows.
-use Rattle.std.proofs.Common.{◌≡◌, ℕ, ◌+◌, ◌*◌, ◌<◌, Bool, true, false, List, [], ◌∷◌, length, Option, Some, None, option_map, refl, ap, arith}
+use Rattle.std.proofs.Common.{◌≡◌, ℕ, ◌+◌, ◌*◌, ◌-◌, ◌<◌, ◌≤◌, Bool, true, false, if◌then◌else◌, List, [], ◌∷◌, length, get_or, Option, Some, None, option_map, refl, ap, arith}
 use Rattle.std.specs.List.{list_all}
 use mathlib.Core.Logic.{⊎_elim}
 use Rattle.std.proofs.lemmas.Bool.{cases_Bool}
@@ -8,7 +8,7 @@ use Rattle.tz_specs.specs.Parts.{parts_at}
 use Rattle.tz_specs.specs.Number.{is_digit, number_of, are_digits}
 use Rattle.tz_specs.specs.Amount.{Length, rounded, clock_of, size_of, part_up_to, seconds_of}
 use Rattle.tz_text.specs.Sizes.{added, seconds_of_hours, seconds_of_minutes, rounded_seconds_of, last_seconds_of, clock_seconds_of}
-use Rattle.tz_text.proofs.Marks.{one_part, digits_unmarked, parts_are}
+use Rattle.tz_text.proofs.Marks.{one_part, digits_unmarked, no_point, no_colon, parts_are}
 
 -- an even number more changes no rounding
 pub rounded-more : (half whole : ℕ) (fraction : List ℕ) → rounded (record { whole = 2 * half + whole; fraction = fraction }) ≡ 2 * half + rounded (record { whole = whole; fraction = fraction })
@@ -51,6 +51,36 @@ pub size_is : (word : List ℕ) → size_of word ≡ clock_seconds_of (parts_at 
 unfolding size_of
 size_is word = clock_is (parts_at 0x3a word)
 
+-- hours alone
+
+hours_alone : (word : List ℕ) → list_all is_digit word ≡ true → size_of word ≡ seconds_of_hours word
+hours_alone word digits = rw (size_is word, digits_unmarked 0x3a word no_colon digits) refl
+
+-- the number that a digit writes
+digit_read : (byte value : ℕ) (digit : Bool) → is_digit byte ≡ digit → Some value ≡ (if digit then Some (byte - 0x30) else None) → (is_digit byte ≡ true) × (value ≡ byte - 0x30)
+digit_read byte value true is read = (is, cc)
+digit_read byte value false is read = cc
+
+pub one_digit : (word : List ℕ) (ones : ℕ) → 1 ≤ length word → length word < 2 → Some ones ≡ (if is_digit (get_or word 0 0) then Some (get_or word 0 0 - 0x30) else None) → size_of word ≡ Some (3600 * ones)
+unfolding number_of
+one_digit [] ones some few first = absurd (omega arith)
+one_digit (byte ∷ []) ones some few first =
+    let one = digit_read byte ones (is_digit byte) refl first in
+    let alone = hours_alone (byte ∷ []) (rw one.0 refl) in
+    rw alone (rw one.0 (ap Some (omega (arith, one.1))))
+one_digit (byte ∷ other ∷ word) ones some few first = absurd (omega arith)
+
+pub two_digits : (word : List ℕ) (tens ones : ℕ) → 2 ≤ length word → length word < 3 → Some tens ≡ (if is_digit (get_or word 0 0) then Some (get_or word 0 0 - 0x30) else None) → Some ones ≡ (if is_digit (get_or word 1 0) then Some (get_or word 1 0 - 0x30) else None) → size_of word ≡ Some (3600 * (10 * tens + ones))
+unfolding number_of
+two_digits [] tens ones some few first second = absurd (omega arith)
+two_digits (byte ∷ []) tens ones some few first second = absurd (omega arith)
+two_digits (byte ∷ next ∷ []) tens ones some few first second =
+    let ten = digit_read byte tens (is_digit byte) refl first in
+    let one = digit_read next ones (is_digit next) refl second in
+    let alone = hours_alone (byte ∷ next ∷ []) (rw (ten.0, one.0) refl) in
+    rw alone (rw (ten.0, one.0) (ap Some (omega (arith, ten.1, one.1))))
+two_digits (byte ∷ next ∷ other ∷ word) tens ones some few first second = absurd (omega arith)
+
 rounded_if : (test : Bool) (size : Length) → option_map rounded (only_if test size) ≡ only_if test (rounded size)
 rounded_if true size = refl
 rounded_if false size = refl
@@ -63,7 +93,7 @@ point_cut front behind whole (part ∷ []) are more seconds =
 point_cut front behind whole (part ∷ other ∷ parts) are more seconds =
     ⊎_elim (λ (digits : are_digits 1 12 behind ≡ true).
     let all : list_all is_digit behind ≡ true = grind arith in
-    let one : parts_at 0x2e behind ≡ behind ∷ [] = digits_unmarked behind all in
+    let one : parts_at 0x2e behind ≡ behind ∷ [] = digits_unmarked 0x2e behind no_point all in
     absurd (cc))
     (λ (none : are_digits 1 12 behind ≡ false). rw none refl) (cases_Bool (are_digits 1 12 behind))
 

@@ -1,10 +1,13 @@
 -- How the reading of a line goes on from a place of it.
 use Rattle.std.proofs.Common.{◌≡◌, ℕ, ◌+◌, ◌-◌, ◌<◌, ◌≤◌, true, false, List, [], ◌∷◌, ◌++◌, length, drop, get_or, Some, None, arith, refl, ◌≢◌, ne_eqb, eq-eqb, append_assoc, length-drop}
+use mathlib.Core.Logic.{⊎_elim}
+use Rattle.std.proofs.lemmas.Bool.{cases_Bool}
+use Rattle.std.proofs.lemmas.Bool.Decides.{nat_tests}
 use Rattle.std.specs.Option.{option_map}
 use Rattle.std.specs.Prelude.{Result, Ok, Err, OnErr}
 use Rattle.std.specs.List.{slice_range}
 use Rattle.std.proofs.lemmas.List.{drop_more, take_more, drop_all, get_or-drop, append-nil, take_rest}
-use Rattle.tz_specs.specs.Field.{is_white, hash, quote, Between, Inside, Quoted, fields_from}
+use Rattle.tz_specs.specs.Field.{is_white, is_plain, hash, quote, Between, Inside, Quoted, fields_from}
 use Rattle.tz_specs.proofs.Heads.{white_head, plain_head, quoted_head, closing_head, opening_head, field_head, ending_white, ending_hash, ending_nil}
 
 -- what holds at all holds of an error
@@ -39,6 +42,19 @@ plain_at line field from to order within w h q =
     rw
     (drop_more line to 0 within, range_more line from to order within, ← append_assoc)
     (plain_head _ _ _ w (ne_eqb _ _ h) (ne_eqb _ _ q))
+
+-- the same, where the byte is known to be plain
+
+plain_byte : (byte : ℕ) → is_plain byte ≡ true → (is_white byte ≡ false) × ((byte ≢ hash) × (byte ≢ quote))
+plain_byte byte plain = grind (arith, nat_tests)
+
+pub plain_more :
+    (line field : List ℕ) (from to : ℕ) → from ≤ to → to < length line → is_plain (get_or line to 0) ≡ true
+    → fields_from Inside (field ++ slice_range line from to) (drop to line)
+    ≡ fields_from Inside (field ++ slice_range line from (to + 1)) (drop (to + 1) line)
+plain_more line field from to order within plain =
+    let parts = plain_byte (get_or line to 0) plain in
+    plain_at line field from to order within parts.0 parts.1.0 parts.1.1
 
 pub plain_first :
     (line field : List ℕ) (from : ℕ) → from < length line → is_white (get_or line from 0) ≡ false
@@ -104,6 +120,21 @@ pub ending_at_hash :
     ≡ option_map (λ fields. field ∷ fields) (fields_from Between [] (drop index line))
 ending_at_hash line field index within h =
     rw (drop_more line index 0 within, h) (ending_hash hash field _ refl refl)
+
+other_byte : (byte : ℕ) → is_plain byte ≡ false → byte ≢ quote → is_white byte ≡ false → byte ≡ hash
+other_byte byte other q w = grind (arith, nat_tests)
+
+-- what is neither plain nor a quote ends a field
+pub ending_unquoted :
+    (line field : List ℕ) (index : ℕ) → index < length line → is_plain (get_or line index 0) ≡ false
+    → get_or line index 0 ≢ quote
+    → fields_from Inside field (drop index line)
+    ≡ option_map (λ fields. field ∷ fields) (fields_from Between [] (drop index line))
+ending_unquoted line field index within other q =
+    ⊎_elim
+    (λ (w : is_white (get_or line index 0) ≡ true). ending_at_white line field index within w)
+    (λ (w : is_white (get_or line index 0) ≡ false). ending_at_hash line field index within (other_byte (get_or line index 0) other q w))
+    (cases_Bool (is_white (get_or line index 0)))
 
 pub no_more_at_end : (line : List ℕ) (index : ℕ) → length line ≤ index → fields_from Between [] (drop index line) ≡ Some []
 unfolding fields_from

@@ -3,19 +3,8 @@ ghost use Rattle.std.specs.Prelude.{◌≡◌, ◌≤◌, ◌+◌, [], ◌∷◌
 ghost use Rattle.tz_specs.specs.Number.{is_digit, number_of};
 ghost use Rattle.tz_specs.specs.CivilWord.{has_civil_marks, digits_at, civil_word};
 
+use crate::digits::digit;
 use tz_types::civil_seconds;
-
-/// The number that one digit writes.
-fn digit(byte: u8) -> Option<u8>
-    ensures value { result ≡ (if is_digit byte then Some (byte - 0x30) else None) }
-    ensures bound { IfSome result (λ number. number ≤ 9) }
-{
-    if byte >= b'0' && byte <= b'9' {
-        Some(byte - b'0')
-    } else {
-        None
-    }
-}
 
 /// The number that two digits write.
 #[tactic(auto, unfolding(tz_specs::specs::Number::number_of))]

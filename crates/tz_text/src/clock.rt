@@ -1,5 +1,5 @@
 //! Amounts of time, in seconds (zic(8), "Rule lines", AT and SAVE).
-ghost use Rattle.std.specs.Prelude.{◌≡◌, ◌<◌, ◌≤◌, ◌^◌, ◌*◌, length, pos, IfSome, option_map};
+ghost use Rattle.std.specs.Prelude.{◌≡◌, ◌<◌, ◌≤◌, ◌^◌, ◌*◌, length, pos, IfSome, Some, option_map};
 ghost use Rattle.tz_types.specs.Amount.{IsTimeOfDay};
 ghost use Rattle.tz_specs.specs.Choice.{only_if};
 ghost use Rattle.tz_specs.specs.Number.{number_of, are_digits};
@@ -9,7 +9,7 @@ ghost use Rattle.tz_text.specs.Sizes.{seconds_of_hours, seconds_of_minutes, roun
 
 use crate::Amount;
 use crate::bytes::{is_one_of, lower_case, place};
-use crate::digits::{decimal, number};
+use crate::digits::{decimal, digit, number};
 
 /// The power of ten with so many zeros.
 fn power_of_ten(digits: usize) -> u64
@@ -112,12 +112,27 @@ fn after_hours(word: &[u8]) -> Option<u64>
     Some(minutes(&word[..colon])? + last_seconds(&word[colon + 1..])?)
 }
 
+/// The hours that one digit or two write, as most amounts do; none where the word is another.
+fn few_hours(word: &[u8]) -> Option<u64>
+    ensures value { IfSome result (λ seconds. size_of word.now ≡ Some seconds) }
+    ensures bound { IfSome result (λ seconds. seconds ≤ 356_400) }
+{
+    match word {
+        [ones] => Some(3600 * u64::from(digit(*ones)?)),
+        [tens, ones] => Some(3600 * u64::from(10 * digit(*tens)? + digit(*ones)?)),
+        _ => None,
+    }
+}
+
 /// Hours; hours and minutes; hours, minutes and seconds.
 #[tactic(auto, using(crate::proofs::Sizes::size_is))]
 fn size(word: &[u8]) -> Option<u64>
     ensures value { result ≡ size_of word.now }
     ensures bound { IfSome result (λ seconds. seconds ≤ 3_600_001) }
 {
+    if let Some(seconds) = few_hours(word) {
+        return Some(seconds);
+    }
     let Some(colon) = place(word, b':') else {
         return hours(word);
     };

@@ -148,7 +148,7 @@ fn field_at(line: &[u8], index: usize, joined: &mut Joined) -> Result<Field, Ope
     ensures err { OnErr result (fields_from Between [] (drop index line.now) ≡ None) }
 {
     let piece = piece_at(line, index)?;
-    if ends_field(line, piece.after) {
+    if piece.last {
         return Ok(Field {
             span: Span::Line {
                 start: piece.start as u16,

@@ -1,9 +1,21 @@
 //! Numbers in decimal digits.
-ghost use Rattle.std.specs.Prelude.{◌≡◌, ◌<◌, ◌≤◌, ◌^◌, length, IfSome, if◌then◌else◌};
+ghost use Rattle.std.specs.Prelude.{◌≡◌, ◌<◌, ◌≤◌, ◌^◌, ◌-◌, length, IfSome, Some, None, if◌then◌else◌};
 ghost use Rattle.std.specs.List.{list_all};
 ghost use Rattle.tz_types.specs.Year.{IsWrittenYear};
 ghost use Rattle.jiff_core.specs.Calendar.{IsWithin};
 ghost use Rattle.tz_specs.specs.Number.{is_digit, decimal_value, number_of, signed_number_of, year_of};
+
+/// The number that one digit writes.
+pub fn digit(byte: u8) -> Option<u8>
+    ensures value { result ≡ (if is_digit byte then Some (byte - 0x30) else None) }
+    ensures bound { IfSome result (λ number. number ≤ 9) }
+{
+    if byte >= b'0' && byte <= b'9' {
+        Some(byte - b'0')
+    } else {
+        None
+    }
+}
 
 /// What the digits stand for, where all bytes are digits.
 pub fn decimal(word: &[u8]) -> Option<u64>

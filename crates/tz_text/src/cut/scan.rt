@@ -1,6 +1,6 @@
 //! Where runs of bytes of one kind end.
 ghost use Rattle.std.specs.Prelude.{◌≡◌, ◌≢◌, ◌∷◌, ℕ, List, [], ◌++◌, ◌+◌, ◌<◌, ◌≤◌, length, drop, false, IsTrue, IfOk, OnErr, None, slice_index, slice_range};
-ghost use Rattle.tz_specs.specs.Field.{is_white, hash, quote, fields_from, Between, Inside, Quoted};
+ghost use Rattle.tz_specs.specs.Field.{is_white, is_plain, hash, quote, fields_from, Between, Inside, Quoted};
 ghost use Rattle.tz_text.specs.Piece.{IsPiece, EndsField, BeginsPiece};
 
 use super::OpenQuote;
@@ -12,13 +12,22 @@ pub(super) struct Piece {
     pub end: usize,
     /// Where the line goes on after the piece.
     pub after: usize,
+    /// Whether the field ends there too.
+    pub last: bool,
 }
 
 /// Space, tab, newline, vertical tab, form feed or carriage return.
 fn is_white(byte: u8) -> bool
     ensures { result ≡ is_white byte }
 {
-    byte == b' ' || (byte >= 0x09 && byte <= 0x0d)
+    byte <= b' ' && (byte == b' ' || (byte >= 0x09 && byte <= 0x0d))
+}
+
+/// No white space, `#` or quote. Nearly all bytes of a line are greater than these, so this is asked first.
+fn is_plain(byte: u8) -> bool
+    ensures { result ≡ is_plain byte }
+{
+    byte > b'#' || (byte != b'#' && byte != b'"' && !is_white(byte))
 }
 
 /// The first byte from `from` on that is no white space, or the end.
@@ -58,6 +67,7 @@ pub(super) fn piece_at(line: &[u8], index: usize) -> Result<Piece, OpenQuote>
             start: index + 1,
             end,
             after: end + 1,
+            last: ends_field(line, end + 1),
         })
     } else {
         let end = plain_end(line, index);
@@ -65,24 +75,35 @@ pub(super) fn piece_at(line: &[u8], index: usize) -> Result<Piece, OpenQuote>
             start: index,
             end,
             after: end,
+            last: ends_run(line, end),
         })
     }
 }
 
 /// Where the run of plain bytes ends that begins at `from`.
-#[tactic(auto, using(crate::proofs::Steps::plain_at, crate::proofs::Steps::plain_first))]
+#[tactic(auto, using(crate::proofs::Steps::plain_more, crate::proofs::Steps::plain_first))]
 fn plain_end(line: &[u8], from: usize) -> usize
     requires begins { BeginsPiece line.now from }
     requires plain { slice_index line.now from ≢ quote }
     ensures onwards { from < result }
     ensures within { result ≤ length line.now }
     ensures goes_on { (field : List ℕ) → fields_from Inside field (drop from line.now) ≡ fields_from Inside (field ++ slice_range line.now from result) (drop result line.now) }
+    ensures stop { result < length line.now → is_plain (slice_index line.now result) ≡ false }
 {
     let mut end = from + 1;
-    while !ends_field(line, end) && line[end] != b'"' {
+    while end < line.len() && is_plain(line[end]) {
         end += 1;
     }
     end
+}
+
+/// Whether the field ends where a run of plain bytes does: only a quote goes on with it there.
+#[tactic(auto, using(crate::proofs::Steps::ending_at_end, crate::proofs::Steps::ending_unquoted))]
+fn ends_run(line: &[u8], end: usize) -> bool
+    requires { end < length line.now → is_plain (slice_index line.now end) ≡ false }
+    ensures { IsTrue result → EndsField line.now end }
+{
+    end >= line.len() || line[end] != b'"'
 }
 
 /// The quote that closes the piece which begins at `from`.

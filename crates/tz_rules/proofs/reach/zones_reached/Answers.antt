@@ -1,7 +1,5 @@
 use Rattle.std.proofs.Common.{◌≡◌, IfOk, map, length, rules}
-use Rattle.std.specs.Ordering.{nat_cmp}
-use Rattle.std.specs.Cmp.Lexicographic.{slice_cmp}
-use Rattle.std.specs.BTreeMap.{get}
+use Rattle.tz_rules.specs.NameMap.{known_of}
 use Rattle.std.proofs.lemmas.Result.{IfOk-weaker}
 use Rattle.tz_rules.specs.Stops.{targets_of, stop_after, zone_place}
 use Rattle.tz_rules.proofs.ZonesReached.{zones_are}
@@ -9,7 +7,7 @@ use Rattle.tz_rules.proofs.reach.zones_reached.Goals as goal
 
 pub returns : goal.returns
 returns c =
-    let known = get (slice_cmp nat_cmp) c.in_ok-known.known in
+    let known = known_of c.in_ok-known.known in
     let targets : c.in_ok-targets.targets.items ≡ targets_of known c.args.links.now = search rules in
     let ends : c.in_ok-ends.ends.items ≡ map (stop_after c.in_ok-targets.targets.items (length c.in_ok-targets.targets.items)) c.in_ok-targets.targets.items = search rules in
     let places : IfOk c.zone_places.result (λ places. places.items ≡ map zone_place c.in_ok-ends.ends.items) = search rules in

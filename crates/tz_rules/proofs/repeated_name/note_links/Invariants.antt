@@ -1,7 +1,5 @@
 use Rattle.std.proofs.Common.{◌≡◌, ℕ, List, map, drop}
-use Rattle.std.specs.Ordering.{nat_cmp}
-use Rattle.std.specs.Cmp.Lexicographic.{slice_cmp}
-use Rattle.std.specs.BTreeMap.{get}
+use Rattle.tz_rules.specs.NameMap.{known_of}
 use Rattle.tz_specs.specs.Written.{written_link}
 use Rattle.tz_rules.specs.FirstLine.{first_line}
 use Rattle.tz_rules.proofs.repeated_name.note_links.Given as goal
@@ -9,4 +7,4 @@ use Rattle.tz_rules.proofs.repeated_name.note_links.Given as goal
 -- the least line of each name, when the links that are left give theirs too
 abbrev pub invariant-loop-link : goal.invariant-loop-link
 invariant-loop-link l =
-    (other : List ℕ) → first_line other (get (slice_cmp nat_cmp) l.lines other) (map (λ link. (link.name, link.line)) (map written_link (drop l.link-index l.parts.links))) ≡ first_line other (get (slice_cmp nat_cmp) l.fn.lines other) (map (λ link. (link.name, link.line)) (map written_link l.parts.links))
+    (other : List ℕ) → first_line other (known_of l.lines other) (map (λ link. (link.name, link.line)) (map written_link (drop l.link-index l.parts.links))) ≡ first_line other (known_of l.fn.lines other) (map (λ link. (link.name, link.line)) (map written_link l.parts.links))

@@ -1,7 +1,5 @@
 use Rattle.std.proofs.Common.{◌≡◌, map, drop}
-use Rattle.std.specs.Ordering.{nat_cmp}
-use Rattle.std.specs.Cmp.Lexicographic.{slice_cmp}
-use Rattle.std.specs.BTreeMap.{get}
+use Rattle.tz_rules.specs.NameMap.{known_of}
 use Rattle.std.specs.List.{filter_map}
 use Rattle.tz_specs.specs.Written.{written_link}
 use Rattle.tz_rules.specs.Told.{told_with}
@@ -11,4 +9,4 @@ use Rattle.tz_rules.proofs.repeated_name.tell_later_links.Given as goal
 -- the least, when the names of the links that are left are told too
 abbrev pub invariant-loop-link : goal.invariant-loop-link
 invariant-loop-link l =
-    told_with l.told.least (filter_map (later_name (get (slice_cmp nat_cmp) l.lines)) (map (λ link. (link.name, link.line)) (map written_link (drop l.link-index l.parts.links)))) ≡ told_with l.fn.told.least (filter_map (later_name (get (slice_cmp nat_cmp) l.lines)) (map (λ link. (link.name, link.line)) (map written_link l.parts.links)))
+    told_with l.told.least (filter_map (later_name (known_of l.lines)) (map (λ link. (link.name, link.line)) (map written_link (drop l.link-index l.parts.links)))) ≡ told_with l.fn.told.least (filter_map (later_name (known_of l.lines)) (map (λ link. (link.name, link.line)) (map written_link l.parts.links)))

@@ -1,7 +1,5 @@
 use Rattle.std.proofs.Common.{◌≡◌, map, drop}
-use Rattle.std.specs.Ordering.{nat_cmp}
-use Rattle.std.specs.Cmp.Lexicographic.{slice_cmp}
-use Rattle.std.specs.BTreeMap.{get}
+use Rattle.tz_rules.specs.NameMap.{known_of}
 use Rattle.std.specs.List.{filter_map}
 use Rattle.tz_specs.specs.Whole.{zone_name}
 use Rattle.tz_specs.specs.Written.{written_zone}
@@ -12,4 +10,4 @@ use Rattle.tz_rules.proofs.repeated_name.tell_later_zones.Given as goal
 -- the least, when the names of the zones that are left are told too
 abbrev pub invariant-loop-zone : goal.invariant-loop-zone
 invariant-loop-zone l =
-    told_with l.told.least (filter_map (later_name (get (slice_cmp nat_cmp) l.lines)) (filter_map zone_name (map (written_zone l.parts.names) (drop l.zone-index l.parts.zones)))) ≡ told_with l.fn.told.least (filter_map (later_name (get (slice_cmp nat_cmp) l.lines)) (filter_map zone_name (map (written_zone l.parts.names) l.parts.zones)))
+    told_with l.told.least (filter_map (later_name (known_of l.lines)) (filter_map zone_name (map (written_zone l.parts.names) (drop l.zone-index l.parts.zones)))) ≡ told_with l.fn.told.least (filter_map (later_name (known_of l.lines)) (filter_map zone_name (map (written_zone l.parts.names) l.parts.zones)))

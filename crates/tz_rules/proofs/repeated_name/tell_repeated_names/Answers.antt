@@ -1,7 +1,5 @@
 use Rattle.std.proofs.Common.{◌≡◌, map}
-use Rattle.std.specs.Ordering.{nat_cmp}
-use Rattle.std.specs.Cmp.Lexicographic.{slice_cmp}
-use Rattle.std.specs.BTreeMap.{get}
+use Rattle.tz_rules.specs.NameMap.{known_of}
 use Rattle.std.specs.List.{filter_map}
 use Rattle.tz_specs.specs.Written.{written_link}
 use Rattle.tz_specs.specs.Whole.{zone_name, names_given}
@@ -15,7 +13,7 @@ use Rattle.tz_rules.proofs.repeated_name.tell_repeated_names.Goals as goal
 
 pub returns : goal.returns
 returns c =
-    let least_of = get (slice_cmp nat_cmp) c.in_ok-lines.lines in
+    let least_of = known_of c.in_ok-lines.lines in
     let names = names_given (contents_given c.args.parts.now) in
     let same = same_repeats least_of names c.in_ok-lines.ensures in
     let zones = filter_map zone_name (map (written_zone c.args.parts.now.names) c.args.parts.now.zones) in

@@ -1,7 +1,6 @@
 use Rattle.std.proofs.Common.{arith, ◌∙◌}
-use Rattle.std.specs.Ordering.{nat_cmp}
-use Rattle.std.specs.Cmp.Lexicographic.{slice_cmp}
-use Rattle.std.specs.BTreeMap.{get}
+use Rattle.std.proofs.lemmas.Map.Text.{hash_map_updates_str}
+use Rattle.tz_rules.specs.NameMap.{known_of}
 use Rattle.tz_types.specs.declared.link.Link.{Link}
 use Rattle.tz_rules.specs.declared.stop.Stop.TheVariants as stops
 use Rattle.tz_rules.proofs.FirstStops.{noted_last}
@@ -14,5 +13,5 @@ loop-place-preserved c =
     record {
       from_first = steps.0 ∙ c.loop-place.invariant.from_first;
       each = λ name.
-          noted_last stops.Link name (λ (link : Link). link.name) c.loop-place.place-iterator.iter.iter.rest.now c.next.new.self.iter.iter.rest.now c.in-Some.link.now c.in-Some.place (get (slice_cmp nat_cmp) c.loop-place.known name) (get (slice_cmp nat_cmp) c.insert.new.self name) steps.1.0 (omega (arith, steps.1.1, c.loop-place.invariant.from_first)) (rw c.copied.ensures at (updates.0 name)) ∙ c.loop-place.invariant.each name;
+          noted_last stops.Link name (λ (link : Link). link.name) c.loop-place.place-iterator.iter.iter.rest.now c.next.new.self.iter.iter.rest.now c.in-Some.link.now c.in-Some.place (known_of c.loop-place.known name) (known_of c.insert.new.self name) steps.1.0 (omega (arith, steps.1.1, c.loop-place.invariant.from_first)) (rw c.as_bytes.ensures.bytes at (hash_map_updates_str c.as_bytes.result.now c.loop-place.known c.insert.new.self _ updates name)) ∙ c.loop-place.invariant.each name;
     }

@@ -1,7 +1,5 @@
 use Rattle.std.proofs.Common.{◌≡◌, ℕ, List}
-use Rattle.std.specs.Ordering.{nat_cmp}
-use Rattle.std.specs.Cmp.Lexicographic.{slice_cmp}
-use Rattle.std.specs.BTreeMap.{get}
+use Rattle.tz_rules.specs.NameMap.{known_of}
 use Rattle.tz_rules.specs.Stops.{zone_names, first_stop}
 use Rattle.tz_rules.specs.declared.stop.Stop.TheVariants as stops
 use Rattle.tz_rules.proofs.stop.note_zones.Given as goal
@@ -11,5 +9,5 @@ abbrev pub invariant-loop-place : goal.invariant-loop-place
 invariant-loop-place l =
     record {
       from_first : l.place-iterator.iter.count ≡ 0;
-      each : (name : List ℕ) → first_stop stops.Zone 0 name (zone_names l.place-iterator.iter.iter.rest.now) (get (slice_cmp nat_cmp) l.known name) ≡ first_stop stops.Zone 0 name (zone_names l.zones) (get (slice_cmp nat_cmp) l.fn.known name);
+      each : (name : List ℕ) → first_stop stops.Zone 0 name (zone_names l.place-iterator.iter.iter.rest.now) (known_of l.known name) ≡ first_stop stops.Zone 0 name (zone_names l.zones) (known_of l.fn.known name);
     }

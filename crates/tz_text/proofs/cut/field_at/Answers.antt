@@ -1,4 +1,4 @@
-use Rattle.std.proofs.Common.{◌≡◌, ◌∙◌, arith, [], None, drop, refl}
+use Rattle.std.proofs.Common.{◌≡◌, ◌∙◌, arith, [], None, drop}
 use Rattle.std.proofs.lemmas.List.{take_all}
 use Rattle.std.proofs.lemmas.Result.{IfOk-weaker, on_err_weaker}
 use Rattle.tz_specs.specs.Field.{fields_from, Between}
@@ -13,8 +13,8 @@ returns-in_err-piece-clause-err c =
     (field_at _ _ c.requires.begins.within c.requires.begins.no_white c.requires.begins.no_hash
     ∙ c.in_err-piece.ensures.err [])
 
-pub returns-then-ends_field-clause-ok : goal.returns-then-ends_field-clause-ok
-returns-then-ends_field-clause-ok c = record {
+pub returns-then-piece-clause-ok : goal.returns-then-piece-clause-ok
+returns-then-piece-clause-ok c = record {
   onwards = omega (arith, c.in_ok-piece.ensures.ok.onwards);
   within = c.in_ok-piece.ensures.ok.within;
   room = omega (arith, c.in_ok-piece.ensures.ok.onwards);
@@ -24,7 +24,7 @@ returns-then-ends_field-clause-ok c = record {
   goes_on =
       field_at _ _ c.requires.begins.within c.requires.begins.no_white c.requires.begins.no_hash
       ∙ c.in_ok-piece.ensures.ok.goes_on []
-      ∙ c.if-ends_field.ensures.ends refl _;
+      ∙ c.in_ok-piece.ensures.ok.ends c.if-piece.true _;
 }
 
 pub returns-clause-ok : goal.returns-clause-ok

@@ -23,4 +23,5 @@ returns-in_ok-end-clause-ok c = record {
       λ field.
       opening_at _ field _ c.requires.within c.requires.no_white c.requires.no_hash c.if-line-index-eq34.true
       ∙ c.in_ok-end.ensures.closed field;
+  ends = c.ends_field.ensures.ends;
 }
