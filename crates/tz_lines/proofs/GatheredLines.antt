@@ -1,12 +1,14 @@
 -- What lines give, one after another.
-use Rattle.std.proofs.Common.{◌≡◌, ℕ, ◌+◌, List, [], ◌∷◌, length, Option, Some, None, Result, Ok, Err, refl, ap, ◌∙◌}
+use Rattle.std.proofs.Common.{◌≡◌, ℕ, ◌+◌, nat_lt, Bool, true, false, ◌||◌, List, [], ◌∷◌, length, Option, Some, None, Result, Ok, Err, refl, ap, ◌∙◌}
 use Rattle.tz_types.specs.declared.cause.Cause.{Cause}
 use Rattle.tz_types.specs.declared.fault.LineFault.{LineFault}
-use Rattle.tz_types.specs.Cause.{cause_number}
+use Rattle.tz_types.specs.declared.cause.Cause.TheVariants as causes
 use Rattle.tz_specs.specs.Line.{lines_of}
-use Rattle.tz_specs.specs.Causes.{fault_at}
+use Rattle.tz_specs.specs.Causes.{least_cause, unless_cause, fault_at}
 use Rattle.tz_specs.specs.Written.{Record}
-use Rattle.tz_specs.specs.Contents.{Contents, no_contents, with_record, with_said, line_says, contents_after, at_end_of_file, contents_over, contents_of}
+use Rattle.tz_specs.specs.Contents.{Contents, waits, no_contents, with_said, line_says, contents_after, at_end_of_file, contents_over, contents_of}
+use Rattle.tz_records.specs.Counts.{exceeds_said, count_causes}
+use Rattle.tz_records.specs.LineAlone.{SaysAlone, RefusesAlone}
 use Rattle.tz_lines.specs.Gathering.{MeansLineFault}
 use Rattle.tz_lines.specs.declared.error.LineError.{LineError}
 use Rattle.tz_lines.specs.declared.error.LineError.TheVariants as errors
@@ -24,24 +26,47 @@ pub after_line : (contents : Contents) (number : ℕ) (line : List ℕ) (lines :
 unfolding contents_after
 after_line contents number line lines = by_said contents number lines (line_says contents number line)
 
--- a blank line
-pub after_blank : (contents : Contents) (number : ℕ) (line : List ℕ) (lines : List (List ℕ)) → line_says contents number line ≡ Ok None → contents_after contents number (line ∷ lines) ≡ contents_after contents (number + 1) lines
-after_blank contents number line lines e =
-    after_line contents number line lines ∙ ap (given_by contents number lines) e
+-- ---- a line by what it says by itself
 
--- a line that says a record
-pub after_record : (contents : Contents) (number : ℕ) (line : List ℕ) (lines : List (List ℕ)) (said : Record) → line_says contents number line ≡ Ok (Some said) → contents_after contents number (line ∷ lines) ≡ contents_after (with_record said contents) (number + 1) lines
-after_record contents number line lines said e =
-    after_line contents number line lines ∙ ap (given_by contents number lines) e
+says_line : (before : Contents) (waiting : Bool) (number : ℕ) (line : List ℕ) (said : Option Record) → waits before ≡ waiting → SaysAlone waiting number line said → line_says before number line ≡ unless_cause (least_cause (count_causes before number said)) said
+unfolding line_says
+says_line before waiting number line said same says =
+    rw (says.cause_is before number same, says.record_is before same) refl
+
+no_count : (exceeded late : Bool) → (exceeded || late) ≡ false → least_cause ((causes.Limit, exceeded) ∷ (causes.Limit, late) ∷ []) ≡ None
+no_count true late h = cc
+no_count false true h = cc
+no_count false false h = refl
+
+one_count : (exceeded late : Bool) → (exceeded || late) ≡ true → least_cause ((causes.Limit, exceeded) ∷ (causes.Limit, late) ∷ []) ≡ Some causes.Limit
+one_count true late h = refl
+one_count false true h = refl
+one_count false false h = cc
+
+-- what is said is given, unless it is one too many
+pub after_said : (before : Contents) (waiting : Bool) (number : ℕ) (line : List ℕ) (lines : List (List ℕ)) (said : Option Record) → waits before ≡ waiting → SaysAlone waiting number line said → (exceeds_said before said || nat_lt 100_000 number) ≡ false → contents_after before number (line ∷ lines) ≡ contents_after (with_said said before) (number + 1) lines
+after_said before waiting number line lines said same says fits =
+    let is = says_line before waiting number line said same says in
+    let none = no_count (exceeds_said before said) (nat_lt 100_000 number) fits in
+    after_line before number line lines ∙ ap (given_by before number lines) (is ∙ ap (λ (it : Option Cause). unless_cause it said) none)
 
 -- a line that has a cause
-after_cause : (contents : Contents) (number : ℕ) (line : List ℕ) (lines : List (List ℕ)) (cause : Cause) → line_says contents number line ≡ Err cause → contents_after contents number (line ∷ lines) ≡ Err (fault_at number cause)
-after_cause contents number line lines cause e =
-    after_line contents number line lines ∙ ap (given_by contents number lines) e
+fault_comes : (before : Contents) (number : ℕ) (line : List ℕ) (lines : List (List ℕ)) (cause : Cause) → line_says before number line ≡ Err cause → MeansLineFault (errors.Fault (fault_at number cause)) (contents_after before number (line ∷ lines))
+fault_comes before number line lines cause e = after_line before number line lines ∙ ap (given_by before number lines) e
 
-pub fault_comes : (contents : Contents) (number told : ℕ) (line : List ℕ) (lines : List (List ℕ)) (cause : Cause) → line_says contents number line ≡ Err cause → told ≡ cause_number cause → MeansLineFault (errors.Fault (record { line = number; cause = told })) (contents_after contents number (line ∷ lines))
-fault_comes contents number told line lines cause e number_is =
-    rw number_is (after_cause contents number line lines cause e)
+pub limit_comes : (before : Contents) (waiting : Bool) (number : ℕ) (line : List ℕ) (lines : List (List ℕ)) (said : Option Record) → waits before ≡ waiting → SaysAlone waiting number line said → (exceeds_said before said || nat_lt 100_000 number) ≡ true → MeansLineFault (errors.Fault (fault_at number causes.Limit)) (contents_after before number (line ∷ lines))
+limit_comes before waiting number line lines said same says exceeded =
+    let is = says_line before waiting number line said same says in
+    let one = one_count (exceeds_said before said) (nat_lt 100_000 number) exceeded in
+    fault_comes before number line lines causes.Limit (is ∙ ap (λ (it : Option Cause). unless_cause it said) one)
+
+refuses_line : (before : Contents) (waiting : Bool) (number : ℕ) (line : List ℕ) (cause : Cause) → waits before ≡ waiting → RefusesAlone waiting line cause → line_says before number line ≡ Err cause
+unfolding line_says
+refuses_line before waiting number line cause same refuses = rw (refuses before number same) refl
+
+pub cause_comes : (before : Contents) (waiting : Bool) (number : ℕ) (line : List ℕ) (lines : List (List ℕ)) (cause : Cause) → waits before ≡ waiting → RefusesAlone waiting line cause → MeansLineFault (errors.Fault (fault_at number cause)) (contents_after before number (line ∷ lines))
+cause_comes before waiting number line lines cause same refuses =
+    fault_comes before number line lines cause (refuses_line before waiting number line cause same refuses)
 
 -- no more lines
 pub after_all : (contents : Contents) (number : ℕ) → contents_after contents number [] ≡ Ok contents

@@ -6,7 +6,6 @@ pub mod LineOrders
 pub mod SetNames
 pub mod LastZone
 pub mod Versions
-pub mod ZoneTextLines
 pub mod LeapReading
 pub mod LeapDates
 pub mod LeapTables

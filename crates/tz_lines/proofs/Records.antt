@@ -1,7 +1,7 @@
 -- A line without a cause says a record that may follow what stands before it.
 use Rattle.std.proofs.Common.{◌≡◌, ℕ, ℤ, zero, suc, ◌+◌, ◌==◌, Bool, true, false, not, ◌&&◌, ◌||◌, if◌then◌else◌, nat_lt, IsTrue, List, [], ◌∷◌, ◌++◌, length, drop, Option, Some, None, option_map, Ok, refl, sym, ap, ◌∙◌, subst, arith}
 use Rattle.std.proofs.lemmas.Bool.{and_parts, and_from, or_parts}
-use Rattle.std.specs.Option.{is_none}
+use Rattle.std.specs.Option.{is_none, IfSome}
 use Rattle.std.specs.List.{list_all, list_any, slice_get}
 use Rattle.std.proofs.lemmas.Bool.Decides.{nat_tests}
 use Rattle.std.proofs.lemmas.Option.{same_Some}
@@ -20,10 +20,15 @@ use Rattle.tz_specs.specs.Word.{named_entry}
 use Rattle.tz_specs.specs.Value.{field_at, month_named, years_of, time_of, stdoff_of, save_of, rules_of, format_of, letters_of, is_bad_name, is_long_name}
 use Rattle.tz_specs.specs.Written.{WrittenRule, WrittenSet, WrittenRules, WrittenUntil, WrittenLine, Record, RuleRecord, ZoneRecord, Continuation, LinkRecord}
 use Rattle.tz_specs.specs.Record.{Kind, RuleLine, ZoneLine, LinkLine, ContinuationLine, keyword_table, kind_of_record, has_count, rule_day, rule_causes, link_causes, rule_of, until_of, line_of, link_of, record_of}
-use Rattle.tz_specs.specs.Contents.{Contents, waits, exceeds_rules, exceeds_zones, exceeds_lines, exceeds_links, record_causes, kind_causes, field_causes, fields_or_none, causes_of_line, record_of_fields, line_says, with_rule, with_record, is_set_named}
+use Rattle.tz_specs.specs.Contents.{Contents, waits, exceeds_rules, exceeds_zones, exceeds_lines, exceeds_links, record_causes, kind_causes, field_causes, fields_or_none, causes_of_line, record_of_fields, line_says, with_rule, with_record, with_said, is_set_named}
 use Rattle.tz_records.proofs.LeastCauses.{rows_false, front_false, row_at}
 use Rattle.tz_records.proofs.ZoneLines.{well_named}
-use Rattle.tz_lines.specs.Following.{are_before, may_follow}
+use Rattle.tz_records.specs.declared.entry.Entry.{Entry}
+use Rattle.tz_records.specs.Entry.{written_entry}
+use Rattle.tz_records.specs.Counts.{exceeds}
+use Rattle.tz_records.specs.LineAlone.{SaysAlone}
+use Rattle.tz_records.proofs.ZoneTextLines.{rule_exceeds, zone_exceeds, line_exceeds}
+use Rattle.tz_lines.specs.Following.{are_before, is_in_place, may_follow}
 
 -- what no cause of a kind of line says of the limit
 
@@ -158,58 +163,86 @@ StandsAt number (ZoneRecord name line) = line.line ≡ number
 StandsAt number (Continuation line) = Unit {0}
 StandsAt number (LinkRecord link) = link.line ≡ number
 
+-- The record of a line is in its place. A zone or a link stands at the line, and all rules stand before the next.
+pub record IsPlaced (contents : Contents) (number : ℕ) (said : Record) : Type 0 where
+  pub in_place : IsTrue (is_in_place contents said)
+  pub stands : StandsAt number said
+  pub before : IsTrue (are_before (number + 1) (with_record said contents).sets)
+
+rule_placed : (contents : Contents) (number : ℕ) (name : List ℕ) (rule : Option WrittenRule) (said : Record) → ((it : WrittenRule) → rule ≡ Some it → it.line ≡ number) → option_map (RuleRecord name) rule ≡ Some said → are_before number contents.sets ≡ true → IsPlaced contents number said
+rule_placed contents number name None said at e h = cc
+rule_placed contents number name (Some rule) said at e h =
+    let same = same_Some (RuleRecord name rule) said e in
+    let line = at rule refl in
+    let earlier : nat_lt rule.line (number + 1) ≡ true = grind (arith, nat_tests) in
+    subst (IsPlaced contents number) same (record {
+      in_place = rw line h;
+      stands = tt;
+      before = added_before (number + 1) name rule contents.sets earlier (still_before number contents.sets h);
+    })
+
+zone_placed : (contents : Contents) (number : ℕ) (name : List ℕ) (line : Option WrittenLine) (said : Record) → ((it : WrittenLine) → line ≡ Some it → it.line ≡ number) → option_map (ZoneRecord name) line ≡ Some said → are_before number contents.sets ≡ true → IsPlaced contents number said
+zone_placed contents number name None said at e h = cc
+zone_placed contents number name (Some line) said at e h =
+    let same = same_Some (ZoneRecord name line) said e in
+    subst (IsPlaced contents number) same (record { in_place = refl; stands = at line refl; before = still_before number contents.sets h })
+
+continuation_placed : (contents : Contents) (number : ℕ) (line : Option WrittenLine) (said : Record) → option_map Continuation line ≡ Some said → waits contents ≡ true → are_before number contents.sets ≡ true → IsPlaced contents number said
+continuation_placed contents number None said e waiting h = cc
+continuation_placed contents number (Some line) said e waiting h =
+    let same = same_Some (Continuation line) said e in
+    subst (IsPlaced contents number) same (record { in_place = waiting; stands = tt; before = still_before number contents.sets h })
+
+kind_placed : (contents : Contents) (number : ℕ) (fields : List (List ℕ)) (kind : Kind) (said : Record) → kind_of_record (waits contents) fields ≡ Some kind → record_of kind number fields ≡ Some said → are_before number contents.sets ≡ true → IsPlaced contents number said
+kind_placed contents number fields RuleLine said named e h =
+    rule_placed contents number (field_at 1 fields) (rule_of number fields) said (rule_line number fields) e h
+kind_placed contents number fields ZoneLine said named e h =
+    zone_placed contents number (field_at 1 fields) (line_of number (drop 2 fields)) said (zone_line number (drop 2 fields)) e h
+kind_placed contents number fields LinkLine said named e h =
+    let same = same_Some (LinkRecord (link_of number fields)) said e in
+    subst (IsPlaced contents number) same (record { in_place = refl; stands = refl; before = still_before number contents.sets h })
+kind_placed contents number fields ContinuationLine said named e h =
+    continuation_placed contents number (line_of number fields) said e (waits_for (waits contents) fields named) h
+
+named_placed : (contents : Contents) (number : ℕ) (fields : List (List ℕ)) (kind : Option Kind) (said : Record) → kind_of_record (waits contents) fields ≡ kind → (kind >>= λ it. record_of it number fields) ≡ Some said → are_before number contents.sets ≡ true → IsPlaced contents number said
+named_placed contents number fields None said named e h = cc
+named_placed contents number fields (Some kind) said named e h =
+    kind_placed contents number fields kind said named e h
+
+-- what fields say is in its place
+pub placed : (contents : Contents) (number : ℕ) (fields : List (List ℕ)) (said : Record) → record_of_fields contents number fields ≡ Some said → IsTrue (are_before number contents.sets) → IsPlaced contents number said
+placed contents number [] said e h = cc
+placed contents number (field ∷ fields) said e h =
+    named_placed contents number (field ∷ fields) (kind_of_record (waits contents) (field ∷ fields)) said refl e h
+
+-- a record without a cause isn't one too many
+
+kind_room : (contents : Contents) (number : ℕ) (fields : List (List ℕ)) (kind : Kind) (said : Record) → least_cause (record_causes contents kind fields) ≡ None → record_of kind number fields ≡ Some said → exceeds contents said ≡ false
+kind_room contents number fields RuleLine said none e =
+    rule_exceeds contents (field_at 1 fields) (rule_of number fields) said e ∙ rule_room (exceeds_rules (field_at 1 fields) contents) fields none
+kind_room contents number fields ZoneLine said none e =
+    let good = well_named (is_bad_name (field_at 1 fields)) (is_long_name (field_at 1 fields) || exceeds_zones contents) (drop 2 fields) none in
+    zone_exceeds contents (field_at 1 fields) (line_of number (drop 2 fields)) said e ∙ (or_parts (is_long_name (field_at 1 fields)) (exceeds_zones contents) good.1).1
+kind_room contents number fields LinkLine said none e =
+    ap (exceeds contents) (sym (same_Some (LinkRecord (link_of number fields)) said e)) ∙ link_room (exceeds_links contents) fields none
+kind_room contents number fields ContinuationLine said none e =
+    line_exceeds contents (line_of number fields) said e ∙ (well_named false (exceeds_lines contents) fields none).1
+
+named_room : (contents : Contents) (number : ℕ) (fields : List (List ℕ)) (kind : Option Kind) (said : Record) → least_cause (kind_causes contents kind fields) ≡ None → (kind >>= λ it. record_of it number fields) ≡ Some said → exceeds contents said ≡ false
+named_room contents number fields None said none e = cc
+named_room contents number fields (Some kind) said none e =
+    kind_room contents number fields kind said (rows_false (causes.FieldCount, not (has_count kind (length fields))) (record_causes contents kind fields) none) e
+
+room : (contents : Contents) (number : ℕ) (fields : List (List ℕ)) (said : Record) → least_cause (field_causes contents fields) ≡ None → record_of_fields contents number fields ≡ Some said → exceeds contents said ≡ false
+room contents number [] said none e = cc
+room contents number (field ∷ fields) said none e =
+    named_room contents number (field ∷ fields) (kind_of_record (waits contents) (field ∷ fields)) said none e
+
 -- The record of a line may follow what stands before it. A zone or a link stands at the line, and all rules stand before the next.
 pub record Follows (contents : Contents) (number : ℕ) (said : Record) : Type 0 where
   pub may : IsTrue (may_follow contents said)
   pub stands : StandsAt number said
   pub before : IsTrue (are_before (number + 1) (with_record said contents).sets)
-
-rule_follows : (contents : Contents) (number : ℕ) (name : List ℕ) (rule : Option WrittenRule) (said : Record) → ((it : WrittenRule) → rule ≡ Some it → it.line ≡ number) → option_map (RuleRecord name) rule ≡ Some said → exceeds_rules name contents ≡ false → are_before number contents.sets ≡ true → Follows contents number said
-rule_follows contents number name None said at e room h = cc
-rule_follows contents number name (Some rule) said at e room h =
-    let same = same_Some (RuleRecord name rule) said e in
-    let line = at rule refl in
-    let earlier : nat_lt rule.line (number + 1) ≡ true = grind (arith, nat_tests) in
-    subst (Follows contents number) same (record {
-      may = rw (room, line) h;
-      stands = tt;
-      before = added_before (number + 1) name rule contents.sets earlier (still_before number contents.sets h);
-    })
-
-zone_follows : (contents : Contents) (number : ℕ) (name : List ℕ) (line : Option WrittenLine) (said : Record) → ((it : WrittenLine) → line ≡ Some it → it.line ≡ number) → option_map (ZoneRecord name) line ≡ Some said → exceeds_zones contents ≡ false → are_before number contents.sets ≡ true → Follows contents number said
-zone_follows contents number name None said at e room h = cc
-zone_follows contents number name (Some line) said at e room h =
-    let same = same_Some (ZoneRecord name line) said e in
-    subst (Follows contents number) same (record { may = rw room refl; stands = at line refl; before = still_before number contents.sets h })
-
-continuation_follows : (contents : Contents) (number : ℕ) (line : Option WrittenLine) (said : Record) → option_map Continuation line ≡ Some said → waits contents ≡ true → exceeds_lines contents ≡ false → are_before number contents.sets ≡ true → Follows contents number said
-continuation_follows contents number None said e waiting room h = cc
-continuation_follows contents number (Some line) said e waiting room h =
-    let same = same_Some (Continuation line) said e in
-    subst (Follows contents number) same (record { may = rw (waiting, room) refl; stands = tt; before = still_before number contents.sets h })
-
-by_kind : (contents : Contents) (number : ℕ) (fields : List (List ℕ)) (kind : Kind) (said : Record) → kind_of_record (waits contents) fields ≡ Some kind → least_cause (record_causes contents kind fields) ≡ None → record_of kind number fields ≡ Some said → are_before number contents.sets ≡ true → Follows contents number said
-by_kind contents number fields RuleLine said named none e h =
-    rule_follows contents number (field_at 1 fields) (rule_of number fields) said (rule_line number fields) e (rule_room (exceeds_rules (field_at 1 fields) contents) fields none) h
-by_kind contents number fields ZoneLine said named none e h =
-    let good = well_named (is_bad_name (field_at 1 fields)) (is_long_name (field_at 1 fields) || exceeds_zones contents) (drop 2 fields) none in
-    zone_follows contents number (field_at 1 fields) (line_of number (drop 2 fields)) said (zone_line number (drop 2 fields)) e (or_parts (is_long_name (field_at 1 fields)) (exceeds_zones contents) good.1).1 h
-by_kind contents number fields LinkLine said named none e h =
-    let same = same_Some (LinkRecord (link_of number fields)) said e in
-    let room = link_room (exceeds_links contents) fields none in
-    subst (Follows contents number) same (record { may = rw room refl; stands = refl; before = still_before number contents.sets h })
-by_kind contents number fields ContinuationLine said named none e h =
-    continuation_follows contents number (line_of number fields) said e (waits_for (waits contents) fields named) (well_named false (exceeds_lines contents) fields none).1 h
-
-by_named : (contents : Contents) (number : ℕ) (fields : List (List ℕ)) (kind : Option Kind) (said : Record) → kind_of_record (waits contents) fields ≡ kind → least_cause (kind_causes contents kind fields) ≡ None → (kind >>= λ it. record_of it number fields) ≡ Some said → are_before number contents.sets ≡ true → Follows contents number said
-by_named contents number fields None said named none e h = cc
-by_named contents number fields (Some kind) said named none e h =
-    by_kind contents number fields kind said named (rows_false (causes.FieldCount, not (has_count kind (length fields))) (record_causes contents kind fields) none) e h
-
-by_fields : (contents : Contents) (number : ℕ) (fields : List (List ℕ)) (said : Record) → least_cause (field_causes contents fields) ≡ None → record_of_fields contents number fields ≡ Some said → are_before number contents.sets ≡ true → Follows contents number said
-by_fields contents number [] said none e h = cc
-by_fields contents number (field ∷ fields) said none e h =
-    by_named contents number (field ∷ fields) (kind_of_record (waits contents) (field ∷ fields)) said refl none e h
 
 by_cause : (cause : Option Cause) (told : Option Record) (said : Record) → unless_cause cause told ≡ Ok (Some said) → (cause ≡ None) × (told ≡ Some said)
 by_cause None told said e = (refl, cc)
@@ -223,4 +256,22 @@ follows contents number line said e h =
     let late = (causes.Limit, nat_lt 100_000 number) ∷ [] in
     let open_quote = (causes.OpenQuote, is_none (fields_of line)) ∷ (field_causes contents fields ++ late) in
     let none = rows_false (causes.OpenQuote, is_none (fields_of line)) (field_causes contents fields ++ late) (rows_false (causes.Nul, list_any (λ byte. byte == 0) line) open_quote (rows_false (causes.LongLine, nat_lt 2_048 (line_length line)) ((causes.Nul, list_any (λ byte. byte == 0) line) ∷ open_quote) told.0)) in
-    by_fields contents number fields said (front_false (field_causes contents fields) late none) told.1 h
+    let is = placed contents number fields said told.1 h in
+    let fits = room contents number fields said (front_false (field_causes contents fields) late none) told.1 in
+    record {
+      may = and_from (is_in_place contents said) (not (exceeds contents said)) is.in_place (ap not fits);
+      stands = is.stands;
+      before = is.before;
+    }
+
+-- ---- what a line says by itself
+
+pub said_placed : (before : Contents) (waiting : Bool) (number : ℕ) (line : List ℕ) (said : Option Entry) → waits before ≡ waiting → SaysAlone waiting number line (option_map written_entry said) → IsTrue (are_before number before.sets) → IfSome said (λ entry. IsTrue (is_in_place before (written_entry entry)))
+said_placed before waiting number line None same says h = tt
+said_placed before waiting number line (Some entry) same says h =
+    (placed before number (fields_or_none (fields_of line)) (written_entry entry) (says.record_is before same) h).in_place
+
+pub said_before : (before : Contents) (waiting : Bool) (number : ℕ) (line : List ℕ) (said : Option Entry) → waits before ≡ waiting → SaysAlone waiting number line (option_map written_entry said) → IsTrue (are_before number before.sets) → IsTrue (are_before (number + 1) (with_said (option_map written_entry said) before).sets)
+said_before before waiting number line None same says h = still_before number before.sets h
+said_before before waiting number line (Some entry) same says h =
+    (placed before number (fields_or_none (fields_of line)) (written_entry entry) (says.record_is before same) h).before

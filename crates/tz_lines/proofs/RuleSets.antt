@@ -1,10 +1,9 @@
 -- Rule sets in the order of their names, with one more rule.
-use Rattle.std.proofs.Common.{◌≡◌, ℕ, zero, suc, ◌<◌, ◌≤◌, true, false, nat_le, nat_lt, IsTrue, List, [], ◌∷◌, ◌++◌, length, map, get_or, set, Some, Result, Ok, Err, refl, sym, ap, ◌∙◌, arith}
+use Rattle.std.proofs.Common.{◌≡◌, ℕ, zero, suc, ◌<◌, ◌≤◌, true, nat_le, nat_lt, IsTrue, List, [], ◌∷◌, ◌++◌, length, map, get_or, set, Some, Result, Ok, Err, refl, sym, ap, ◌∙◌, arith}
 use Rattle.std.proofs.lemmas.Bool.{and_parts, and_from}
 use Rattle.std.specs.List.{find, insert, list_all, HoldsAt}
 use Rattle.std.proofs.lemmas.Cmp.{nat_list_cmp_total, tied_itself}
 use Rattle.std.specs.Result.{OnOk, OnErr}
-use Rattle.std.proofs.lemmas.Bool.Decides.{nat_tests}
 use Rattle.std.proofs.lemmas.List.{length-map, length-append, get_or-map, map-set, map-append, set-get_or}
 use Rattle.std.proofs.lemmas.List.Edits.{length-insert}
 use Rattle.tz_types.specs.Order.{ascends, ascends_after, name_before}
@@ -159,17 +158,8 @@ pub place_before : (number : ℕ) (sets : List RuleSet) (place : ℕ) (it : Rule
 place_before number sets place it within is h =
     ap (λ (set : RuleSet). list_all (λ (rule : Rule). nat_lt rule.line number) set.rules) is ∙ set_before number sets place it within h
 
-below : (most count : ℕ) → nat_le most count ≡ false → count < most
-below most count h = grind (arith, nat_tests)
-
-pub room_in_set : (sets : List RuleSet) (name : List ℕ) (place : ℕ) (it : RuleSet) → name_place name (set_names sets) ≡ Ok place → place < length sets → it ≡ get_or sets place it → is_full_set (map written_set sets) (find (is_set_named name) (map written_set sets)) ≡ false → length it.rules < most_rules
-room_in_set sets name place it e within is room =
-    below most_rules (length it.rules) (full_known sets name place it e within is ∙ room)
-
-pub room_for_set : (sets : List RuleSet) (name : List ℕ) (place : ℕ) (new : RuleSet) → IsTrue (ascends name_before (set_names sets)) → name_place name (set_names sets) ≡ Err place → place ≤ length sets → is_full_set (map written_set sets) (find (is_set_named name) (map written_set sets)) ≡ false → length (insert sets place new) ≤ most_sets
-room_for_set sets name place new up e within room =
-    let few = below most_sets (length sets) (full_new sets name place up e ∙ room) in
-    rw (length-insert sets place new within) (omega arith)
+pub room_for_set : (sets : List RuleSet) (place : ℕ) (new : RuleSet) → place ≤ length sets → length sets < most_sets → length (insert sets place new) ≤ most_sets
+room_for_set sets place new within few = rw (length-insert sets place new within) (omega arith)
 
 -- the set at a place, whatever stands for a place that is none
 pub holds_there : (P : RuleSet → Type 0) (sets : List RuleSet) (place : ℕ) (set : RuleSet) → place < length sets → set ≡ get_or sets place set → P set → HoldsAt P sets place

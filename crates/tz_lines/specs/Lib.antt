@@ -1,4 +1,4 @@
-pub mod LineOutcome
+pub mod AddingOutcome
 pub mod SetNames
 pub mod Gathered
 pub mod Following

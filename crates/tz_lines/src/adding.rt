@@ -1,13 +1,16 @@
 //! What the lines of a text have given so far, with one more record.
-ghost use Rattle.std.specs.Prelude.{◌≡◌, ◌+◌, ◌<◌, ◌≤◌, ◌^◌, false, length, IsTrue, IfOk, OnOk};
+ghost use Rattle.std.specs.Prelude.{◌≡◌, ◌+◌, ◌<◌, ◌≤◌, ◌^◌, ◌||◌, false, nat_lt, length, option_map, IsTrue, IfSome, IfOk, OnOk};
 ghost use Rattle.tz_specs.specs.Written.{written_rule, written_line, RuleRecord, ZoneRecord, Continuation, LinkRecord};
-ghost use Rattle.tz_specs.specs.Contents.{no_contents, at_end_of_file, with_record};
+ghost use Rattle.tz_specs.specs.Contents.{no_contents, at_end_of_file, with_record, with_said};
 ghost use Rattle.tz_records.specs.Entry.{written_entry, written_entry_line};
+ghost use Rattle.tz_records.specs.Counts.{exceeds, exceeds_said};
 ghost use Rattle.tz_rules.specs.Continued.{is_named_by};
 ghost use Rattle.tz_lines.specs.Gathered.{contents_gathered};
-ghost use Rattle.tz_lines.specs.Following.{may_follow};
+ghost use Rattle.tz_lines.specs.Following.{is_in_place};
+ghost use Rattle.tz_lines.specs.AddingOutcome.{MeansLimit};
 
 use crate::contents::Gathered;
+use crate::error::AddError;
 use crate::last_zone::{continue_last, zone_of};
 use crate::rule_sets::add_rule;
 use crate::set_names::SetNames;
@@ -33,8 +36,9 @@ impl Gathered {
         }
     }
 
-    fn add_rule(&mut self, alloc: Global, name: GivenName<'_>, rule: Rule) -> Result<(), NoMemory>
-        requires { IsTrue (may_follow (contents_gathered self.old) (RuleRecord name.bytes.now (written_rule rule))) }
+    fn add_rule(&mut self, alloc: Global, name: GivenName<'_>, rule: Rule) -> Result<(), AddError>
+        requires { IsTrue (is_in_place (contents_gathered self.old) (RuleRecord name.bytes.now (written_rule rule))) }
+        ensures limit { MeansLimit result (exceeds (contents_gathered self.old) (RuleRecord name.entry.bytes.now (written_rule rule))) }
         ensures contents { OnOk result (contents_gathered self.new ≡ with_record (RuleRecord name.entry.bytes.now (written_rule rule)) (contents_gathered self.old)) }
         ensures names { length self.new.names.labels.items ≡ length self.old.names.labels.items }
     {
@@ -61,24 +65,31 @@ impl Gathered {
         alloc: Global,
         name: GivenName<'_>,
         entry: EntryLine<'_>,
-    ) -> Result<(), NoMemory>
+    ) -> Result<(), AddError>
         requires room { length self.old.names.labels.items < 2 ^ 32 }
-        requires may { IsTrue (may_follow (contents_gathered self.old) (ZoneRecord name.bytes.now (written_entry_line entry))) }
+        ensures limit { MeansLimit result (exceeds (contents_gathered self.old) (ZoneRecord name.entry.bytes.now (written_entry_line entry.entry))) }
         ensures contents { OnOk result (contents_gathered self.new ≡ with_record (ZoneRecord name.entry.bytes.now (written_entry_line entry.entry)) (contents_gathered self.old)) }
         ensures names { length self.new.names.labels.items ≤ length self.old.names.labels.items + 1 }
     {
+        if self.exceeds_zones() {
+            return Err(AddError::Limit);
+        }
         let line = self.zone_line(entry)?;
         self.zones.push(zone_of(alloc, name, line)?)?;
         self.begun = true;
         Ok(())
     }
 
-    fn continue_zone(&mut self, alloc: Global, entry: EntryLine<'_>) -> Result<(), NoMemory>
+    fn continue_zone(&mut self, alloc: Global, entry: EntryLine<'_>) -> Result<(), AddError>
         requires room { length self.old.names.labels.items < 2 ^ 32 }
-        requires may { IsTrue (may_follow (contents_gathered self.old) (Continuation (written_entry_line entry))) }
+        requires waits { IsTrue (is_in_place (contents_gathered self.old) (Continuation (written_entry_line entry))) }
+        ensures limit { MeansLimit result (exceeds (contents_gathered self.old) (Continuation (written_entry_line entry.entry))) }
         ensures contents { OnOk result (contents_gathered self.new ≡ with_record (Continuation (written_entry_line entry.entry)) (contents_gathered self.old)) }
         ensures names { length self.new.names.labels.items ≤ length self.old.names.labels.items + 1 }
     {
+        if self.exceeds_lines() {
+            return Err(AddError::Limit);
+        }
         let line = self.zone_line(entry)?;
         let mut zones = mem::replace(&mut self.zones, Items::new(alloc)).into_vec();
         continue_last(&mut zones, line)?;
@@ -92,17 +103,21 @@ impl Gathered {
         target: GivenName<'_>,
         name: GivenName<'_>,
         line: u32,
-    ) -> Result<(), NoMemory>
-        requires { IsTrue (may_follow (contents_gathered self.old) (LinkRecord (record { target = target.bytes.now; name = name.bytes.now; line = line }))) }
+    ) -> Result<(), AddError>
+        ensures limit { MeansLimit result (exceeds (contents_gathered self.old) (LinkRecord (record { target = target.entry.bytes.now; name = name.entry.bytes.now; line = line }))) }
         ensures contents { OnOk result (contents_gathered self.new ≡ with_record (LinkRecord (record { target = target.entry.bytes.now; name = name.entry.bytes.now; line = line })) (contents_gathered self.old)) }
         ensures names { length self.new.names.labels.items ≡ length self.old.names.labels.items }
     {
+        if self.exceeds_links() {
+            return Err(AddError::Limit);
+        }
         self.links.push(Link {
             name: name.label(),
             target: target.label(),
             zone: 0,
             line,
-        })
+        })?;
+        Ok(())
     }
 
     /// Ends a file: the next one continues no zone of it.
@@ -114,10 +129,11 @@ impl Gathered {
         self.begun = false;
     }
 
-    /// Adds what a line says. After `NoMemory` the text can't be read on.
-    pub fn add(&mut self, alloc: Global, entry: Entry<'_>) -> Result<(), NoMemory>
+    /// Adds the record of a line, unless it is one too many.
+    fn add_entry(&mut self, alloc: Global, entry: Entry<'_>) -> Result<(), AddError>
         requires room { length self.old.names.labels.items < 2 ^ 32 }
-        requires may { IsTrue (may_follow (contents_gathered self.old) (written_entry entry)) }
+        requires in_place { IsTrue (is_in_place (contents_gathered self.old) (written_entry entry)) }
+        ensures limit { MeansLimit result (exceeds (contents_gathered self.old) (written_entry entry.entry)) }
         ensures contents { OnOk result (contents_gathered self.new ≡ with_record (written_entry entry.entry) (contents_gathered self.old)) }
         ensures names { length self.new.names.labels.items ≤ length self.old.names.labels.items + 1 }
     {
@@ -126,6 +142,29 @@ impl Gathered {
             Entry::Zone { name, line } => self.begin_zone(alloc, name, line),
             Entry::Continuation(line) => self.continue_zone(alloc, line),
             Entry::Link { target, name, line } => self.add_link(target, name, line),
+        }
+    }
+
+    /// Adds what the line of that number says, unless the line or its record is one too many. After an error the text can't be
+    /// read on.
+    pub fn add(
+        &mut self,
+        alloc: Global,
+        said: Option<Entry<'_>>,
+        number: u32,
+    ) -> Result<(), AddError>
+        requires room { length self.old.names.labels.items < 2 ^ 32 }
+        requires in_place { IfSome said (λ entry. IsTrue (is_in_place (contents_gathered self.old) (written_entry entry))) }
+        ensures limit { MeansLimit result (exceeds_said (contents_gathered self.old) (option_map written_entry said.entry) || nat_lt 100_000 number) }
+        ensures contents { OnOk result (contents_gathered self.new ≡ with_said (option_map written_entry said.entry) (contents_gathered self.old)) }
+        ensures names { length self.new.names.labels.items ≤ length self.old.names.labels.items + 1 }
+    {
+        if number > 100_000 {
+            return Err(AddError::Limit);
+        }
+        match said {
+            None => Ok(()),
+            Some(entry) => self.add_entry(alloc, entry),
         }
     }
 }

@@ -11,13 +11,15 @@ ghost use Rattle.tz_lines.specs.Gathering.{MeansLineFault};
 
 use crate::contents::Gathered;
 use crate::cutting::{may_have_nul, next_line};
-use crate::error::LineError;
-use crate::line::read_line;
+use crate::error::{AddError, LineError};
 use std::alloc::Global;
+use tz_records::read_line;
 use tz_text::Joined;
-use tz_types::{LineFault, Text};
+use tz_types::{Cause, Text};
 
-/// Reads one more line of a text. `nuls` says whether the text may have a NUL byte.
+/// Reads one more line of a text. The limits are asked last: a line that has a lesser cause besides is refused with that.
+///
+/// `nuls` says whether the text may have a NUL byte.
 fn take_line(
     alloc: Global,
     gathered: &mut Gathered,
@@ -37,16 +39,14 @@ fn take_line(
     ensures err { IfErr result (λ e. (lines : List (List ℕ)) →
         MeansLineFault e (contents_after (contents_gathered gathered.old) number (line.now ∷ lines))) }
 {
-    match read_line(line, joined, nuls, number, gathered) {
-        Ok(None) => Ok(()),
-        Ok(Some(entry)) => {
-            gathered.add(alloc, entry)?;
-            Ok(())
-        }
-        Err(cause) => Err(LineError::Fault(LineFault {
-            line: number,
-            cause: cause.number(),
-        })),
+    let said = match read_line(line, joined, nuls, number, gathered.waits()) {
+        Ok(said) => said,
+        Err(cause) => return Err(LineError::at(number, cause)),
+    };
+    match gathered.add(alloc, said, number) {
+        Ok(()) => Ok(()),
+        Err(AddError::NoMemory) => Err(LineError::NoMemory),
+        Err(AddError::Limit) => Err(LineError::at(number, Cause::Limit)),
     }
 }
 

@@ -14,16 +14,6 @@ use tz_records::read_leap_line;
 use tz_text::Joined;
 use tz_types::{Cause, Items, LeapEntry, Leaps, LineFault, NoMemory};
 
-/// Why the text is refused at a line.
-fn fault(line: u32, cause: Cause) -> LineError
-    ensures { result ≡ LineError.Fault (leap_fault line cause) }
-{
-    LineError::Fault(LineFault {
-        line,
-        cause: cause.number(),
-    })
-}
-
 /// Reads one more line of a leap text.
 fn take_line(
     contents: &mut LeapContents,
@@ -43,7 +33,7 @@ fn take_line(
             contents.add(number, said)?;
             Ok(())
         }
-        Err(cause) => Err(fault(number, cause)),
+        Err(cause) => Err(LineError::at(number, cause)),
     }
 }
 

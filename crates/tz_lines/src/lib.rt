@@ -3,9 +3,9 @@
 //! `read_zones` reads the zone texts of a source whole, or refuses it with the file, the line and the cause; `locate` finds a zone by its name.
 //! `read_leaps` reads a leap text whole, or refuses it with the line and the cause.
 //!
-//! Here stands what speaks of the lines of a text one after another, and of what they have given so far. What a line says
-//! by its fields is read in `tz_records`; `tz_rules` builds the database of what all lines gave, or tells the faults that
-//! no single line has.
+//! Here stands what speaks of the lines of a text one after another, and of what they have given so far, also whether a line,
+//! or what it says, is one too many. What a line says by itself is read in `tz_records`; `tz_rules` builds the database of
+//! what all lines gave, or tells the faults that no single line has.
 #![tactic(auto)]
 
 mod adding;
@@ -18,12 +18,10 @@ mod leap_contents;
 mod leap_faults;
 mod leap_reading;
 mod limits;
-mod line;
 mod locating;
 mod parts;
 mod places;
 mod reading;
-mod record_line;
 mod rule_sets;
 mod set_names;
 mod version;

@@ -1,10 +1,9 @@
-//! Whether one more record would be one too many, and whether a zone waits for a line.
+//! Whether a zone waits for a line, and whether one more zone, line of a zone or link would be one too many.
 ghost use Rattle.std.specs.Prelude.{◌≡◌};
-ghost use Rattle.tz_specs.specs.Contents.{last_lines, wants_line, waits, exceeds_rules, exceeds_zones, exceeds_lines, exceeds_links};
+ghost use Rattle.tz_specs.specs.Contents.{last_lines, wants_line, waits, exceeds_zones, exceeds_lines, exceeds_links};
 ghost use Rattle.tz_lines.specs.Gathered.{contents_gathered};
 
 use crate::contents::Gathered;
-use crate::rule_sets::set_place;
 
 impl Gathered {
     /// Whether the last line of the zone that was begun last has an UNTIL.
@@ -25,16 +24,6 @@ impl Gathered {
         ensures { result ≡ waits (contents_gathered self.now) }
     {
         self.begun && self.wants_line()
-    }
-
-    /// Whether a rule of that name would be one too many of its set, or its set one too many.
-    pub fn exceeds_rules(&self, name: &[u8]) -> bool
-        ensures { result ≡ exceeds_rules name.now (contents_gathered self.now) }
-    {
-        match set_place(self.sets.as_slice(), self.last_set, name) {
-            Ok(place) => self.sets.as_slice()[place].rules.len() >= 512,
-            Err(_) => self.sets.len() >= 1_024,
-        }
     }
 
     /// Whether a zone would be one too many.

@@ -1,6 +1,6 @@
 //! Rule sets in the order of their names.
-ghost use Rattle.std.specs.Prelude.{◌≡◌, ◌∷◌, ◌++◌, [], ◌<◌, ◌≤◌, false, length, map, find, nat_lt, IsTrue, IfOk, OnOk};
-ghost use Rattle.std.specs.List.{list_all, HoldsAt};
+ghost use Rattle.std.specs.Prelude.{◌≡◌, ◌∷◌, ◌++◌, [], ◌<◌, ◌≤◌, length, map, find, nat_lt, nat_le, IsTrue, IfOk, OnOk};
+ghost use Rattle.std.specs.List.{insert, list_all, HoldsAt};
 ghost use Rattle.std.specs.List.Sorted.{IsSearchInRange};
 ghost use Rattle.tz_types.specs.Order.{ascends, name_before};
 ghost use Rattle.tz_types.specs.Limit.{most_rules, most_sets};
@@ -10,7 +10,9 @@ ghost use Rattle.tz_specs.specs.Written.{written_rule, written_set, set_names};
 ghost use Rattle.tz_specs.specs.Contents.{with_rule, is_set_named, is_full_set};
 ghost use Rattle.tz_rules.specs.NamePlace.{name_place};
 ghost use Rattle.tz_lines.specs.Following.{are_before};
+ghost use Rattle.tz_lines.specs.AddingOutcome.{MeansLimit};
 
+use crate::error::AddError;
 use std::alloc::Global;
 use tz_records::GivenName;
 use tz_types::{Items, NoMemory, Rule, RuleSet};
@@ -37,7 +39,7 @@ fn searched_place(sets: &[RuleSet], name: &[u8]) -> Result<usize, usize>
 
 /// The same, which takes no search where the set stands at the place that is likely: a rule mostly has the name of the rule
 /// before it.
-pub fn set_place(sets: &[RuleSet], likely: usize, name: &[u8]) -> Result<usize, usize>
+fn set_place(sets: &[RuleSet], likely: usize, name: &[u8]) -> Result<usize, usize>
     requires { IsTrue (ascends name_before (set_names sets.now)) }
     ensures place { result ≡ name_place name.now (set_names sets.now) }
     ensures bound { IsSearchInRange result (length sets.now) }
@@ -48,14 +50,18 @@ pub fn set_place(sets: &[RuleSet], likely: usize, name: &[u8]) -> Result<usize, 
     searched_place(sets, name)
 }
 
-/// Adds a rule that stands behind those of its set.
-fn push_rule(set: &mut RuleSet, rule: Rule) -> Result<(), NoMemory>
-    requires room { length set.old.rules < most_rules }
-    requires later { IsTrue (list_all (λ (other : DeclaredRule). nat_lt other.line rule.line) set.old.rules) }
+/// Adds a rule that stands behind those of its set, unless it is one too many.
+fn push_rule(set: &mut RuleSet, rule: Rule) -> Result<(), AddError>
+    requires { IsTrue (list_all (λ (other : DeclaredRule). nat_lt other.line rule.line) set.old.rules) }
     ensures rules { OnOk result (set.new.rules ≡ set.old.rules ++ rule ∷ []) }
     ensures name { set.new.name ≡ set.old.name }
+    ensures limit { MeansLimit result (nat_le most_rules (length set.old.rules)) }
 {
-    set.rules.push(rule)
+    if set.rules.len() >= 512 {
+        return Err(AddError::Limit);
+    }
+    set.rules.push(rule)?;
+    Ok(())
 }
 
 /// A set of one rule.
@@ -71,19 +77,28 @@ fn set_of(alloc: Global, name: GivenName<'_>, rule: Rule) -> Result<RuleSet, NoM
     })
 }
 
-/// Adds a rule behind those of its name, or as the first of them. Its set is looked for first at the place that is likely, which
-/// is the set's place from then on.
+/// Puts a set at a place.
+fn insert_set(sets: &mut Vec<RuleSet>, place: usize, set: RuleSet) -> Result<(), NoMemory>
+    requires { place ≤ length sets.old.items }
+    ensures { OnOk result (sets.new.items ≡ insert sets.old.items place set) }
+{
+    sets.insert(place, set)?;
+    Ok(())
+}
+
+/// Adds a rule behind those of its name, or as the first of them, unless it is one too many. One search tells both whether it is,
+/// and where it goes. Its set is looked for first at the place that is likely, which is the set's place from then on.
 pub fn add_rule(
     alloc: Global,
     sets: &mut Vec<RuleSet>,
     likely: &mut usize,
     name: GivenName<'_>,
     rule: Rule,
-) -> Result<(), NoMemory>
+) -> Result<(), AddError>
     requires ascending { IsTrue (ascends name_before (set_names sets.old.items)) }
     requires few { length sets.old.items ≤ most_sets }
-    requires room { is_full_set (map written_set sets.old.items) (find (is_set_named name.bytes.now) (map written_set sets.old.items)) ≡ false }
     requires later { IsTrue (are_before rule.line (map written_set sets.old.items)) }
+    ensures limit { MeansLimit result (is_full_set (map written_set sets.old.items) (find (is_set_named name.entry.bytes.now) (map written_set sets.old.items))) }
     ensures sets { OnOk result (map written_set sets.new.items ≡ with_rule name.entry.bytes.now (written_rule rule) (map written_set sets.old.items)) }
     ensures ascending { OnOk result (IsTrue (ascends name_before (set_names sets.new.items))) }
     ensures few { OnOk result (length sets.new.items ≤ most_sets) }
@@ -94,8 +109,11 @@ pub fn add_rule(
             push_rule(&mut sets[place], rule)
         }
         Err(place) => {
+            if sets.len() >= 1_024 {
+                return Err(AddError::Limit);
+            }
             *likely = place;
-            sets.insert(place, set_of(alloc, name, rule)?)?;
+            insert_set(sets, place, set_of(alloc, name, rule)?)?;
             Ok(())
         }
     }

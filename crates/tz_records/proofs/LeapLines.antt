@@ -108,15 +108,18 @@ rows_at number earlier fields = leap_field_causes earlier fields ++ (causes.Limi
 
 pub long_line : (number earlier : ℕ) (line : List ℕ) → 2_048 < length line + 1 → leap_line_says number earlier line ≡ Err causes.LongLine
 unfolding leap_line_says
-long_line number earlier line long = lines.long_line (rows_at number earlier) leap_record_of_fields line long
+long_line number earlier line long =
+    lines.refused_line (rows_at number earlier) leap_record_of_fields line causes.LongLine (lines.long_cause (rows_at number earlier) line long)
 
 pub nul_line : (number earlier : ℕ) (line : List ℕ) → length line + 1 ≤ 2_048 → list_any (λ byte. byte == 0) line ≡ true → leap_line_says number earlier line ≡ Err causes.Nul
 unfolding leap_line_says
-nul_line number earlier line short nul = lines.nul_line (rows_at number earlier) leap_record_of_fields line short nul
+nul_line number earlier line short nul =
+    lines.refused_line (rows_at number earlier) leap_record_of_fields line causes.Nul (lines.nul_cause (rows_at number earlier) line short nul)
 
 pub open_line : (number earlier : ℕ) (line : List ℕ) → length line + 1 ≤ 2_048 → list_any (λ byte. byte == 0) line ≡ false → fields_of line ≡ None → leap_line_says number earlier line ≡ Err causes.OpenQuote
 unfolding leap_line_says
-open_line number earlier line short nul e = lines.open_line (rows_at number earlier) leap_record_of_fields line short nul e
+open_line number earlier line short nul e =
+    lines.refused_line (rows_at number earlier) leap_record_of_fields line causes.OpenQuote (lines.open_cause (rows_at number earlier) line short nul e)
 
 pub whole_line : (number earlier : ℕ) (line : List ℕ) (kept : Kept) (told : Result (Option LeapRecord) Cause) → length line + 1 ≤ 2_048 → list_any (λ byte. byte == 0) line ≡ false → option_map kept_of (fields_of line) ≡ Some kept → ((all : List (List ℕ)) → kept_of all ≡ kept → Means told (leap_fields_say number earlier all)) → Means told (leap_line_says number earlier line)
 unfolding leap_line_says

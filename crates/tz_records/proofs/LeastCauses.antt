@@ -1,5 +1,5 @@
 -- The least cause of rows of causes, and of rows in two parts.
-use Rattle.std.proofs.Common.{◌≡◌, ℕ, zero, suc, Bool, true, false, List, [], ◌∷◌, ◌++◌, Option, Some, None, Result, Ok, Err, if◌then◌else◌, refl, sym, ap, ◌∙◌}
+use Rattle.std.proofs.Common.{◌≡◌, ℕ, zero, suc, Bool, true, false, ◌||◌, List, [], ◌∷◌, ◌++◌, Option, Some, None, Result, Ok, Err, if◌then◌else◌, refl, sym, ap, ◌∙◌}
 use Rattle.std.specs.List.{slice_get}
 use Rattle.std.proofs.lemmas.Option.{same_Some}
 use Rattle.tz_types.specs.declared.cause.Cause.{Cause}
@@ -45,6 +45,48 @@ front_false [] later h = refl
 front_false (row ∷ rows) later h =
     let first = row_false row (rows ++ later) h in
     rw first (front_false rows later (rows_false row (rows ++ later) h))
+
+-- the first of two causes that there is
+first_found : Option Cause → Option Cause → Option Cause
+first_found None later = later
+first_found (Some cause) later = Some cause
+
+least_append : (rows later : List (Cause × Bool)) (found : Option Cause) → least_cause rows ≡ found → least_cause (rows ++ later) ≡ first_found found (least_cause later)
+unfolding first_found
+least_append rows later None h = least_after rows later h
+least_append rows later (Some cause) h = least_before rows later cause h
+
+-- rows that have the same least cause have it in front of others too
+pub least_same : (rows others later : List (Cause × Bool)) → least_cause rows ≡ least_cause others → least_cause (rows ++ later) ≡ least_cause (others ++ later)
+least_same rows others later h =
+    least_append rows later (least_cause others) h ∙ sym (least_append others later (least_cause others) refl)
+
+-- Rows whose last is the limit, which holds where a name is too long, or where that or the count of something exceeds it.
+
+by_count : (long exceeds late : Bool) → (long || exceeds) ≡ late → least_cause ((causes.Limit, long) ∷ []) ≡ None → least_cause ((causes.Limit, late) ∷ []) ≡ least_cause ((causes.Limit, exceeds) ∷ [])
+by_count true exceeds late is h = cc
+by_count false exceeds late is h = rw is refl
+
+pub counted_none : (rows : List (Cause × Bool)) (long exceeds late : Bool) → (long || exceeds) ≡ late → least_cause (rows ++ (causes.Limit, long) ∷ []) ≡ None → least_cause (rows ++ (causes.Limit, late) ∷ []) ≡ least_cause ((causes.Limit, exceeds) ∷ [])
+counted_none rows long exceeds late is h =
+    let none = front_false rows ((causes.Limit, long) ∷ []) h in
+    let short = sym (least_after rows ((causes.Limit, long) ∷ []) none) ∙ h in
+    least_after rows ((causes.Limit, late) ∷ []) none ∙ by_count long exceeds late is short
+
+still_limit : (long exceeds late : Bool) (cause : Cause) → (long || exceeds) ≡ late → least_cause ((causes.Limit, long) ∷ []) ≡ Some cause → least_cause ((causes.Limit, late) ∷ []) ≡ Some cause
+still_limit true exceeds late cause is h = rw (← is) h
+still_limit false exceeds late cause is h = cc
+
+by_found : (rows : List (Cause × Bool)) (found : Option Cause) (long exceeds late : Bool) (cause : Cause) → (long || exceeds) ≡ late → least_cause rows ≡ found → least_cause (rows ++ (causes.Limit, long) ∷ []) ≡ Some cause → least_cause (rows ++ (causes.Limit, late) ∷ []) ≡ Some cause
+by_found rows None long exceeds late cause is none h =
+    let limit = sym (least_after rows ((causes.Limit, long) ∷ []) none) ∙ h in
+    least_after rows ((causes.Limit, late) ∷ []) none ∙ still_limit long exceeds late cause is limit
+by_found rows (Some other) long exceeds late cause is found h =
+    let same = sym (least_before rows ((causes.Limit, long) ∷ []) other found) ∙ h in
+    least_before rows ((causes.Limit, late) ∷ []) other found ∙ same
+
+pub counted_some : (rows : List (Cause × Bool)) (long exceeds late : Bool) (cause : Cause) → (long || exceeds) ≡ late → least_cause (rows ++ (causes.Limit, long) ∷ []) ≡ Some cause → least_cause (rows ++ (causes.Limit, late) ∷ []) ≡ Some cause
+counted_some rows long exceeds late cause is h = by_found rows (least_cause rows) long exceeds late cause is refl h
 
 pub row_at : (rows : List (Cause × Bool)) → least_cause rows ≡ None → (place : ℕ) (row : Cause × Bool) → slice_get rows place ≡ Some row → row.1 ≡ false
 row_at [] h place row e = cc

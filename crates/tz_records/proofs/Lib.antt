@@ -6,4 +6,5 @@ pub mod Formats
 pub mod RuleLines
 pub mod ZoneLines
 pub mod PlainDays
+pub mod ZoneTextLines
 pub mod LeapLines

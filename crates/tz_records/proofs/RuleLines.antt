@@ -3,6 +3,7 @@ use Rattle.std.proofs.Common.{◌≡◌, ℕ, ◌<◌, ◌≤◌, nat_lt, Bool, 
 use Rattle.std.specs.Option.{is_none}
 use Rattle.std.specs.List.{list_all}
 use Rattle.std.proofs.lemmas.Bool.{lt-ltb, le-ltb}
+use Rattle.std.proofs.Math.Bool.{or-false}
 use Rattle.tz_types.specs.Text.{is_printable}
 use Rattle.tz_types.specs.declared.cause.Cause.TheVariants as causes
 use Rattle.tz_types.specs.declared.calendar.Month.{Month}
@@ -17,17 +18,17 @@ use Rattle.tz_specs.specs.Record.{RuleLine, rule_day, rule_of, rule_causes, reco
 use Rattle.tz_records.specs.RuleFields.{WrittenRecurrence, rule_with, recurrence_of, recurrence_causes, setting_causes}
 use Rattle.tz_records.proofs.LeastCauses.{least_before, least_after}
 
-parts_of_causes : (too_many : Bool) (fields : List (List ℕ)) → rule_causes too_many fields ≡ recurrence_causes fields ++ setting_causes too_many fields
+parts_of_causes : (fields : List (List ℕ)) → rule_causes false fields ≡ recurrence_causes fields ++ setting_causes fields
 unfolding rule_causes recurrence_causes setting_causes
-parts_of_causes too_many fields = refl
+parts_of_causes fields = rw (or-false (is_long_name (field_at 1 fields))) refl
 
-pub recurrence_refused : (too_many : Bool) (fields : List (List ℕ)) (cause : Cause) → least_cause (recurrence_causes fields) ≡ Some cause → least_cause (rule_causes too_many fields) ≡ Some cause
-recurrence_refused too_many fields cause h =
-    rw (parts_of_causes too_many fields) (least_before (recurrence_causes fields) (setting_causes too_many fields) cause h)
+pub recurrence_refused : (fields : List (List ℕ)) (cause : Cause) → least_cause (recurrence_causes fields) ≡ Some cause → least_cause (rule_causes false fields) ≡ Some cause
+recurrence_refused fields cause h =
+    rw (parts_of_causes fields) (least_before (recurrence_causes fields) (setting_causes fields) cause h)
 
-pub recurrence_told : (too_many : Bool) (fields : List (List ℕ)) → least_cause (recurrence_causes fields) ≡ None → least_cause (rule_causes too_many fields) ≡ least_cause (setting_causes too_many fields)
-recurrence_told too_many fields h =
-    rw (parts_of_causes too_many fields) (least_after (recurrence_causes fields) (setting_causes too_many fields) h)
+pub recurrence_told : (fields : List (List ℕ)) → least_cause (recurrence_causes fields) ≡ None → least_cause (rule_causes false fields) ≡ least_cause (setting_causes fields)
+recurrence_told fields h =
+    rw (parts_of_causes fields) (least_after (recurrence_causes fields) (setting_causes fields) h)
 
 by_steps : (years : Option (ℤ × ℤ)) (month : Option Month) (on : Option On) (time : Option (ℤ × AtKind)) (save : Option (ℤ × Bool)) (letters : List ℕ) (number : ℕ) (recurrence : WrittenRecurrence) (told : ℤ × Bool) →
     (years >>= λ y. month >>= λ m. on >>= λ o. time >>= λ t. Some (record { from = y.0; to = y.1; moment = record { month = m; on = o; at = t.0; kind = t.1 } })) ≡ Some recurrence →
@@ -47,8 +48,8 @@ rule_told number fields recurrence save e f =
     by_steps (years_of (field_at 2 fields) (field_at 3 fields)) (month_named (field_at 5 fields)) (rule_day fields) (time_of (field_at 7 fields)) (save_of (field_at 8 fields)) (letters_of (field_at 9 fields)) number recurrence save e f
 
 -- the tests of what a rule sets, in the order of their causes
-by_tests : (no_save bad start shown : Bool) (long name_long too_many : Bool) → no_save ≡ false → bad ≡ false → start ≡ false → shown ≡ true → least_cause ((causes.Save, no_save) ∷ (causes.BadName, bad || start) ∷ (causes.Format, not shown) ∷ (causes.LongAbbrev, long) ∷ (causes.Limit, name_long || too_many) ∷ []) ≡ (if long then Some causes.LongAbbrev else (if name_long || too_many then Some causes.Limit else None))
-by_tests no_save bad start shown long name_long too_many a b c d = rw (a, b, c, d) refl
+by_tests : (no_save bad start shown : Bool) (long name_long : Bool) → no_save ≡ false → bad ≡ false → start ≡ false → shown ≡ true → least_cause ((causes.Save, no_save) ∷ (causes.BadName, bad || start) ∷ (causes.Format, not shown) ∷ (causes.LongAbbrev, long) ∷ (causes.Limit, name_long) ∷ []) ≡ (if long then Some causes.LongAbbrev else (if name_long then Some causes.Limit else None))
+by_tests no_save bad start shown long name_long a b c d = rw (a, b, c, d) refl
 
 -- a rule whose values are all there
 pub record IsSaid (fields : List (List ℕ)) (recurrence : WrittenRecurrence) (save : ℤ × Bool) : Type 0 where
@@ -71,19 +72,19 @@ values_said bad starts visible fields name eighth letters recurrence save none e
       visible = rw lettered at (sym is_seen ∙ seen);
     }
 
-late_causes : (too_many : Bool) (fields : List (List ℕ)) (recurrence : WrittenRecurrence) (save : ℤ × Bool) → IsSaid fields recurrence save → least_cause (rule_causes too_many fields) ≡ (if nat_lt 8 (length (letters_of (field_at 9 fields))) then Some causes.LongAbbrev else (if is_long_name (field_at 1 fields) || too_many then Some causes.Limit else None))
+late_causes : (fields : List (List ℕ)) (recurrence : WrittenRecurrence) (save : ℤ × Bool) → IsSaid fields recurrence save → least_cause (rule_causes false fields) ≡ (if nat_lt 8 (length (letters_of (field_at 9 fields))) then Some causes.LongAbbrev else (if is_long_name (field_at 1 fields) then Some causes.Limit else None))
 unfolding setting_causes
-late_causes too_many fields recurrence save said =
-    recurrence_told too_many fields said.no_cause ∙ by_tests (is_none (save_of (field_at 8 fields))) (is_bad_name (field_at 1 fields)) (starts_amount (field_at 1 fields)) (list_all is_printable (letters_of (field_at 9 fields))) (nat_lt 8 (length (letters_of (field_at 9 fields)))) (is_long_name (field_at 1 fields)) too_many (rw said.save_is refl) said.good_name said.no_amount said.visible
+late_causes fields recurrence save said =
+    recurrence_told fields said.no_cause ∙ by_tests (is_none (save_of (field_at 8 fields))) (is_bad_name (field_at 1 fields)) (starts_amount (field_at 1 fields)) (list_all is_printable (letters_of (field_at 9 fields))) (nat_lt 8 (length (letters_of (field_at 9 fields)))) (is_long_name (field_at 1 fields)) (rw said.save_is refl) said.good_name said.no_amount said.visible
 
-pub long_letters : (too_many : Bool) (fields : List (List ℕ)) (recurrence : WrittenRecurrence) (save : ℤ × Bool) → IsSaid fields recurrence save → 8 < length (letters_of (field_at 9 fields)) → least_cause (rule_causes too_many fields) ≡ Some causes.LongAbbrev
-long_letters too_many fields recurrence save said long =
-    late_causes too_many fields recurrence save said ∙ rw (lt-ltb 8 (length (letters_of (field_at 9 fields))) long) refl
+pub long_letters : (fields : List (List ℕ)) (recurrence : WrittenRecurrence) (save : ℤ × Bool) → IsSaid fields recurrence save → 8 < length (letters_of (field_at 9 fields)) → least_cause (rule_causes false fields) ≡ Some causes.LongAbbrev
+long_letters fields recurrence save said long =
+    late_causes fields recurrence save said ∙ rw (lt-ltb 8 (length (letters_of (field_at 9 fields))) long) refl
 
 -- the last cause, or none
-pub last_cause : (too_many beyond : Bool) (fields : List (List ℕ)) (recurrence : WrittenRecurrence) (save : ℤ × Bool) → IsSaid fields recurrence save → length (letters_of (field_at 9 fields)) ≤ 8 → (is_long_name (field_at 1 fields) || too_many) ≡ beyond → least_cause (rule_causes too_many fields) ≡ (if beyond then Some causes.Limit else None)
-last_cause too_many beyond fields recurrence save said short is =
-    late_causes too_many fields recurrence save said ∙ rw (le-ltb 8 (length (letters_of (field_at 9 fields))) short, is) refl
+pub last_cause : (beyond : Bool) (fields : List (List ℕ)) (recurrence : WrittenRecurrence) (save : ℤ × Bool) → IsSaid fields recurrence save → length (letters_of (field_at 9 fields)) ≤ 8 → is_long_name (field_at 1 fields) ≡ beyond → least_cause (rule_causes false fields) ≡ (if beyond then Some causes.Limit else None)
+last_cause beyond fields recurrence save said short is =
+    late_causes fields recurrence save said ∙ rw (le-ltb 8 (length (letters_of (field_at 9 fields))) short, is) refl
 
 -- what the line says
 pub rule_said : (number : ℕ) (fields : List (List ℕ)) (name letters : List ℕ) (recurrence : WrittenRecurrence) (save : ℤ × Bool) (rule : WrittenRule) → IsSaid fields recurrence save → name ≡ field_at 1 fields → letters ≡ letters_of (field_at 9 fields) → rule ≡ rule_with number letters recurrence save → record_of RuleLine number fields ≡ Some (RuleRecord name rule)

@@ -55,19 +55,19 @@ by_until true false false false true true later = refl
 by_until true false false false true false later = refl
 by_until true false false false false time later = refl
 
-parts_of_causes : (badly_named too_many : Bool) (fields : List (List ℕ)) → least_cause (line_causes badly_named too_many fields) ≡ least_cause (until_causes fields ++ keeping_causes badly_named too_many fields)
+parts_of_causes : (badly_named long_named : Bool) (fields : List (List ℕ)) → least_cause (line_causes badly_named long_named fields) ≡ least_cause (until_causes fields ++ keeping_causes badly_named long_named fields)
 unfolding line_causes end_causes keeping_causes
-parts_of_causes badly_named too_many fields =
-    by_until (has_until fields) (is_none (rule_year_of (field_at 3 fields))) (is_none (month_named (until_month fields))) (is_none (until_day fields)) (is_none (stdoff_of (field_at 0 fields))) (is_none (time_of (until_time fields))) ((causes.Save, is_none (rules_of (field_at 1 fields))) ∷ (causes.BadName, badly_named || (names_set (field_at 1 fields) && is_bad_name (field_at 1 fields))) ∷ (causes.Format, is_none (format_of (field_at 2 fields))) ∷ (causes.LongAbbrev, nat_lt 24 (length (field_at 2 fields))) ∷ (causes.Limit, too_many || (names_set (field_at 1 fields) && is_long_name (field_at 1 fields))) ∷ [])
+parts_of_causes badly_named long_named fields =
+    by_until (has_until fields) (is_none (rule_year_of (field_at 3 fields))) (is_none (month_named (until_month fields))) (is_none (until_day fields)) (is_none (stdoff_of (field_at 0 fields))) (is_none (time_of (until_time fields))) ((causes.Save, is_none (rules_of (field_at 1 fields))) ∷ (causes.BadName, badly_named || (names_set (field_at 1 fields) && is_bad_name (field_at 1 fields))) ∷ (causes.Format, is_none (format_of (field_at 2 fields))) ∷ (causes.LongAbbrev, nat_lt 24 (length (field_at 2 fields))) ∷ (causes.Limit, long_named || (names_set (field_at 1 fields) && is_long_name (field_at 1 fields))) ∷ [])
 
 -- a cause of the UNTIL is the line's
-pub end_refused : (badly_named too_many : Bool) (fields : List (List ℕ)) (cause : Cause) → least_cause (until_causes fields) ≡ Some cause → least_cause (line_causes badly_named too_many fields) ≡ Some cause
-end_refused badly_named too_many fields cause h =
-    parts_of_causes badly_named too_many fields ∙ least_before (until_causes fields) (keeping_causes badly_named too_many fields) cause h
+pub end_refused : (badly_named long_named : Bool) (fields : List (List ℕ)) (cause : Cause) → least_cause (until_causes fields) ≡ Some cause → least_cause (line_causes badly_named long_named fields) ≡ Some cause
+end_refused badly_named long_named fields cause h =
+    parts_of_causes badly_named long_named fields ∙ least_before (until_causes fields) (keeping_causes badly_named long_named fields) cause h
 
-pub end_told : (badly_named too_many : Bool) (fields : List (List ℕ)) → least_cause (until_causes fields) ≡ None → least_cause (line_causes badly_named too_many fields) ≡ least_cause (keeping_causes badly_named too_many fields)
-end_told badly_named too_many fields h =
-    parts_of_causes badly_named too_many fields ∙ least_after (until_causes fields) (keeping_causes badly_named too_many fields) h
+pub end_told : (badly_named long_named : Bool) (fields : List (List ℕ)) → least_cause (until_causes fields) ≡ None → least_cause (line_causes badly_named long_named fields) ≡ least_cause (keeping_causes badly_named long_named fields)
+end_told badly_named long_named fields h =
+    parts_of_causes badly_named long_named fields ∙ least_after (until_causes fields) (keeping_causes badly_named long_named fields) h
 
 -- the tests of the fields before the UNTIL, in the order of their causes
 by_tests : (stdoff rules bad format long beyond : Bool) → stdoff ≡ false → rules ≡ false → bad ≡ false → format ≡ false → least_cause ((causes.Time, stdoff) ∷ (causes.Save, rules) ∷ (causes.BadName, bad) ∷ (causes.Format, format) ∷ (causes.LongAbbrev, long) ∷ (causes.Limit, beyond) ∷ []) ≡ (if long then Some causes.LongAbbrev else (if beyond then Some causes.Limit else None))
@@ -92,19 +92,19 @@ values_said badly_named set_badly fields first second third stdoff rules format 
       format_is = rw c at (sym at_third);
     }
 
-late_causes : (badly_named too_many : Bool) (fields : List (List ℕ)) (stdoff : ℤ) (rules : WrittenRules) (format : Format) → IsSaid badly_named fields stdoff rules format → least_cause (line_causes badly_named too_many fields) ≡ (if nat_lt 24 (length (field_at 2 fields)) then Some causes.LongAbbrev else (if too_many || (names_set (field_at 1 fields) && is_long_name (field_at 1 fields)) then Some causes.Limit else None))
+late_causes : (badly_named long_named : Bool) (fields : List (List ℕ)) (stdoff : ℤ) (rules : WrittenRules) (format : Format) → IsSaid badly_named fields stdoff rules format → least_cause (line_causes badly_named long_named fields) ≡ (if nat_lt 24 (length (field_at 2 fields)) then Some causes.LongAbbrev else (if long_named || (names_set (field_at 1 fields) && is_long_name (field_at 1 fields)) then Some causes.Limit else None))
 unfolding keeping_causes
-late_causes badly_named too_many fields stdoff rules format said =
-    end_told badly_named too_many fields said.no_cause ∙ by_tests (is_none (stdoff_of (field_at 0 fields))) (is_none (rules_of (field_at 1 fields))) (badly_named || (names_set (field_at 1 fields) && is_bad_name (field_at 1 fields))) (is_none (format_of (field_at 2 fields))) (nat_lt 24 (length (field_at 2 fields))) (too_many || (names_set (field_at 1 fields) && is_long_name (field_at 1 fields))) (rw said.stdoff_is refl) (rw said.rules_are refl) said.well_named (rw said.format_is refl)
+late_causes badly_named long_named fields stdoff rules format said =
+    end_told badly_named long_named fields said.no_cause ∙ by_tests (is_none (stdoff_of (field_at 0 fields))) (is_none (rules_of (field_at 1 fields))) (badly_named || (names_set (field_at 1 fields) && is_bad_name (field_at 1 fields))) (is_none (format_of (field_at 2 fields))) (nat_lt 24 (length (field_at 2 fields))) (long_named || (names_set (field_at 1 fields) && is_long_name (field_at 1 fields))) (rw said.stdoff_is refl) (rw said.rules_are refl) said.well_named (rw said.format_is refl)
 
-pub long_format : (badly_named too_many : Bool) (fields : List (List ℕ)) (stdoff : ℤ) (rules : WrittenRules) (format : Format) → IsSaid badly_named fields stdoff rules format → 24 < length (field_at 2 fields) → least_cause (line_causes badly_named too_many fields) ≡ Some causes.LongAbbrev
-long_format badly_named too_many fields stdoff rules format said long =
-    late_causes badly_named too_many fields stdoff rules format said ∙ rw (lt-ltb 24 (length (field_at 2 fields)) long) refl
+pub long_format : (badly_named long_named : Bool) (fields : List (List ℕ)) (stdoff : ℤ) (rules : WrittenRules) (format : Format) → IsSaid badly_named fields stdoff rules format → 24 < length (field_at 2 fields) → least_cause (line_causes badly_named long_named fields) ≡ Some causes.LongAbbrev
+long_format badly_named long_named fields stdoff rules format said long =
+    late_causes badly_named long_named fields stdoff rules format said ∙ rw (lt-ltb 24 (length (field_at 2 fields)) long) refl
 
 -- the last cause, or none
-pub last_cause : (badly_named too_many beyond : Bool) (fields : List (List ℕ)) (stdoff : ℤ) (rules : WrittenRules) (format : Format) → IsSaid badly_named fields stdoff rules format → length (field_at 2 fields) ≤ 24 → (too_many || (names_set (field_at 1 fields) && is_long_name (field_at 1 fields))) ≡ beyond → least_cause (line_causes badly_named too_many fields) ≡ (if beyond then Some causes.Limit else None)
-last_cause badly_named too_many beyond fields stdoff rules format said short is =
-    late_causes badly_named too_many fields stdoff rules format said ∙ rw (le-ltb 24 (length (field_at 2 fields)) short, is) refl
+pub last_cause : (badly_named long_named beyond : Bool) (fields : List (List ℕ)) (stdoff : ℤ) (rules : WrittenRules) (format : Format) → IsSaid badly_named fields stdoff rules format → length (field_at 2 fields) ≤ 24 → (long_named || (names_set (field_at 1 fields) && is_long_name (field_at 1 fields))) ≡ beyond → least_cause (line_causes badly_named long_named fields) ≡ (if beyond then Some causes.Limit else None)
+last_cause badly_named long_named beyond fields stdoff rules format said short is =
+    late_causes badly_named long_named fields stdoff rules format said ∙ rw (le-ltb 24 (length (field_at 2 fields)) short, is) refl
 
 -- what the line says
 pub line_said : (badly_named : Bool) (number : ℕ) (fields : List (List ℕ)) (stdoff : ℤ) (rules : WrittenRules) (format : Format) (until : Option WrittenUntil) → IsSaid badly_named fields stdoff rules format → until_of fields ≡ Some until → line_of number fields ≡ Some (record { stdoff = stdoff; rules = rules; format = format; until = until; line = number })
@@ -112,12 +112,12 @@ unfolding line_of
 line_said badly_named number fields stdoff rules format until said e =
     rw (said.stdoff_is, said.rules_are, said.format_is, e) refl
 
--- A line without a cause has no bad name, and is none too many.
-pub well_named : (badly_named too_many : Bool) (fields : List (List ℕ)) → least_cause (line_causes badly_named too_many fields) ≡ None → (badly_named ≡ false) × (too_many ≡ false)
+-- A line without a cause has a good name, and none that is too long.
+pub well_named : (badly_named long_named : Bool) (fields : List (List ℕ)) → least_cause (line_causes badly_named long_named fields) ≡ None → (badly_named ≡ false) × (long_named ≡ false)
 unfolding line_causes
-well_named badly_named too_many fields h =
+well_named badly_named long_named fields h =
     let set_badly = names_set (field_at 1 fields) && is_bad_name (field_at 1 fields) in
     let set_long = names_set (field_at 1 fields) && is_long_name (field_at 1 fields) in
-    let good = row_at (line_causes badly_named too_many fields) h 5 (causes.BadName, badly_named || set_badly) refl in
-    let few = row_at (line_causes badly_named too_many fields) h 8 (causes.Limit, too_many || set_long) refl in
-    ((or_parts badly_named set_badly good).0, (or_parts too_many set_long few).0)
+    let good = row_at (line_causes badly_named long_named fields) h 5 (causes.BadName, badly_named || set_badly) refl in
+    let few = row_at (line_causes badly_named long_named fields) h 8 (causes.Limit, long_named || set_long) refl in
+    ((or_parts badly_named set_badly good).0, (or_parts long_named set_long few).0)

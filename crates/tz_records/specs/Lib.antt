@@ -1,6 +1,8 @@
 pub mod FixedSave
 pub mod Entry
 pub mod Kind
+pub mod Counts
+pub mod LineAlone
 pub mod Tells
 pub mod RulesField
 pub mod FormatField

@@ -23,13 +23,13 @@ until_causes fields = if has_until fields then end_causes fields else []
 
 -- the causes of the fields before it
 unfoldable pub keeping_causes : Bool → Bool → List (List ℕ) → List (Cause × Bool)
-keeping_causes badly_named too_many fields =
+keeping_causes badly_named long_named fields =
     (causes.Time, is_none (stdoff_of (field_at 0 fields)))
     ∷ (causes.Save, is_none (rules_of (field_at 1 fields)))
     ∷ (causes.BadName, badly_named || (names_set (field_at 1 fields) && is_bad_name (field_at 1 fields)))
     ∷ (causes.Format, is_none (format_of (field_at 2 fields)))
     ∷ (causes.LongAbbrev, nat_lt 24 (length (field_at 2 fields)))
-    ∷ (causes.Limit, too_many || (names_set (field_at 1 fields) && is_long_name (field_at 1 fields)))
+    ∷ (causes.Limit, long_named || (names_set (field_at 1 fields) && is_long_name (field_at 1 fields)))
     ∷ []
 
 -- the line that keeps this up to the UNTIL

@@ -60,11 +60,11 @@ recurrence_causes fields =
     ∷ []
 
 -- the causes of what a rule sets, and of its name
-unfoldable pub setting_causes : Bool → List (List ℕ) → List (Cause × Bool)
-setting_causes too_many fields =
+unfoldable pub setting_causes : List (List ℕ) → List (Cause × Bool)
+setting_causes fields =
     (causes.Save, is_none (save_of (field_at 8 fields)))
     ∷ (causes.BadName, is_bad_name (field_at 1 fields) || starts_amount (field_at 1 fields))
     ∷ (causes.Format, not (list_all is_printable (letters_of (field_at 9 fields))))
     ∷ (causes.LongAbbrev, nat_lt 8 (length (letters_of (field_at 9 fields))))
-    ∷ (causes.Limit, is_long_name (field_at 1 fields) || too_many)
+    ∷ (causes.Limit, is_long_name (field_at 1 fields))
     ∷ []

@@ -1,5 +1,5 @@
 //! Rule lines: `Rule NAME FROM TO - IN ON AT SAVE LETTER/S`.
-ghost use Rattle.std.specs.Prelude.{◌≡◌};
+ghost use Rattle.std.specs.Prelude.{◌≡◌, false};
 ghost use Rattle.tz_types.specs.Amount.{IsShift};
 ghost use Rattle.tz_specs.specs.Written.{written_rule};
 ghost use Rattle.tz_specs.specs.Record.{RuleLine, rule_causes, record_of};
@@ -11,7 +11,7 @@ use crate::entry::Entry;
 use crate::given_name::GivenName;
 use crate::recurrence::Recurrence;
 use crate::values::{
-    are_visible, is_bad_name, is_beyond, letter_bytes, letters, save, starts_amount,
+    are_visible, is_bad_name, is_long_name, letter_bytes, letters, save, starts_amount,
 };
 use tz_text::Fields;
 use tz_types::{Cause, Letters, Rule};
@@ -32,11 +32,11 @@ fn rule(recurrence: Recurrence, save: i64, daylight: bool, letters: Letters, lin
     }
 }
 
-/// The rule of ten fields, which may be one too many, or their least cause.
+/// The rule of ten fields, or their least cause.
 #[tactic(auto, using(crate::proofs::RuleLines::recurrence_refused, crate::proofs::RuleLines::recurrence_told), unfolding(crate::specs::RuleFields::setting_causes))]
-pub fn rule_entry<'a>(fields: &Fields<'a>, number: u32, too_many: bool) -> Result<Entry<'a>, Cause>
+pub fn rule_entry<'a>(fields: &Fields<'a>, number: u32) -> Result<Entry<'a>, Cause>
     requires { fields.now.count ≡ 10 }
-    ensures { Tells written_entry (rule_causes too_many fields.now.first) (record_of RuleLine number fields.now.first) result }
+    ensures { Tells written_entry (rule_causes false fields.now.first) (record_of RuleLine number fields.now.first) result }
 {
     let recurrence = match Recurrence::of_fields(fields) {
         Ok(recurrence) => recurrence,
@@ -56,7 +56,7 @@ pub fn rule_entry<'a>(fields: &Fields<'a>, number: u32, too_many: bool) -> Resul
     if bytes.len() > 8 {
         return Err(Cause::LongAbbrev);
     }
-    if is_beyond(name, too_many) {
+    if is_long_name(name) {
         return Err(Cause::Limit);
     }
     Ok(Entry::Rule {

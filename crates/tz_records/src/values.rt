@@ -1,5 +1,5 @@
 //! The values of single fields.
-ghost use Rattle.std.specs.Prelude.{◌≡◌, ◌==◌, ◌||◌, ◌≤◌, false, IsTrue, IfSome, length};
+ghost use Rattle.std.specs.Prelude.{◌≡◌, ◌==◌, ◌≤◌, false, IsTrue, IfSome, length};
 ghost use Rattle.std.specs.List.{list_any, list_all};
 ghost use Rattle.tz_types.specs.Text.{is_printable};
 ghost use Rattle.tz_types.specs.Year.{IsWrittenYear, IsRuleYear};
@@ -217,13 +217,6 @@ pub fn is_long_name(field: &[u8]) -> bool
     ensures { result ≡ is_long_name field.now }
 {
     field.len() > 255
-}
-
-/// Whether a name is too long, or its record one too many.
-pub fn is_beyond(name: &[u8], too_many: bool) -> bool
-    ensures { result ≡ (is_long_name name.now || too_many) }
-{
-    is_long_name(name) || too_many
 }
 
 /// Whether the field starts as an amount does, and so is no rule's name.

@@ -117,26 +117,26 @@ fn entry_line<'a>(
     }
 }
 
-/// Whether the name of a rule set is too long, or the line one too many.
-fn is_beyond(rules: &RulesField<'_>, too_many: bool) -> bool
-    ensures { result ≡ (too_many || is_long_named rules.now) }
+/// Whether the name of the zone or that of a rule set is too long.
+fn has_long_name(rules: &RulesField<'_>, long_named: bool) -> bool
+    ensures { result ≡ (long_named || is_long_named rules.now) }
 {
-    too_many || rules.is_long_named()
+    long_named || rules.is_long_named()
 }
 
-/// A line of a zone, which may have a bad name or be one too many, or the least cause of its fields.
+/// A line of a zone, whose name may be bad or too long, or the least cause of its fields.
 #[tactic(auto, using(crate::proofs::ZoneLines::end_refused, crate::proofs::ZoneLines::end_told), unfolding(crate::specs::LineFields::keeping_causes))]
 pub fn zone_line<'a>(
     fields: &Fields<'a>,
     first: usize,
     number: u32,
     badly_named: bool,
-    too_many: bool,
+    long_named: bool,
 ) -> Result<EntryLine<'a>, Cause>
     requires few { fields.now.count ≤ most_kept }
     requires whole { length fields.now.first ≡ fields.now.count }
     requires within { first ≤ 2 }
-    ensures { Tells written_entry_line (line_causes badly_named too_many (drop first fields.now.first)) (line_of number (drop first fields.now.first)) result }
+    ensures { Tells written_entry_line (line_causes badly_named long_named (drop first fields.now.first)) (line_of number (drop first fields.now.first)) result }
 {
     let until = match until(fields, first) {
         Ok(until) => until,
@@ -158,7 +158,7 @@ pub fn zone_line<'a>(
     if field.len() > 24 {
         return Err(Cause::LongAbbrev);
     }
-    if is_beyond(&rules, too_many) {
+    if has_long_name(&rules, long_named) {
         return Err(Cause::Limit);
     }
     Ok(entry_line(stdoff, rules.rules(), format, until, number))

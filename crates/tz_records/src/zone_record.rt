@@ -1,5 +1,5 @@
 //! Lines that begin zones, `Zone NAME STDOFF RULES FORMAT [UNTIL]`, and lines that continue them, which begin at `STDOFF`.
-ghost use Rattle.std.specs.Prelude.{◌≡◌, ◌||◌, ◌≤◌, false, drop, length};
+ghost use Rattle.std.specs.Prelude.{◌≡◌, ◌≤◌, false, drop, length};
 ghost use Rattle.tz_specs.specs.Value.{field_at, is_bad_name, is_long_name};
 ghost use Rattle.tz_specs.specs.Record.{ZoneLine, ContinuationLine, line_causes, record_of};
 ghost use Rattle.tz_records.specs.Entry.{written_entry};
@@ -7,26 +7,20 @@ ghost use Rattle.tz_records.specs.Tells.{Tells};
 
 use crate::entry::Entry;
 use crate::given_name::GivenName;
-use crate::values::{is_bad_name, is_beyond};
+use crate::values::{is_bad_name, is_long_name};
 use crate::zone_line::zone_line;
 use tz_text::Fields;
 use tz_types::Cause;
 
-/// The line that begins a zone, which may be one too many, or the least cause of its fields.
-pub fn zone_entry<'a>(fields: &Fields<'a>, number: u32, too_many: bool) -> Result<Entry<'a>, Cause>
+/// The line that begins a zone, or the least cause of its fields.
+pub fn zone_entry<'a>(fields: &Fields<'a>, number: u32) -> Result<Entry<'a>, Cause>
     requires low { 5 ≤ fields.now.count }
     requires high { fields.now.count ≤ 9 }
     requires whole { length fields.now.first ≡ fields.now.count }
-    ensures { Tells written_entry (line_causes (is_bad_name (field_at 1 fields.now.first)) (is_long_name (field_at 1 fields.now.first) || too_many) (drop 2 fields.now.first)) (record_of ZoneLine number fields.now.first) result }
+    ensures { Tells written_entry (line_causes (is_bad_name (field_at 1 fields.now.first)) (is_long_name (field_at 1 fields.now.first)) (drop 2 fields.now.first)) (record_of ZoneLine number fields.now.first) result }
 {
     let name = fields.get(1);
-    match zone_line(
-        fields,
-        2,
-        number,
-        is_bad_name(name),
-        is_beyond(name, too_many),
-    ) {
+    match zone_line(fields, 2, number, is_bad_name(name), is_long_name(name)) {
         Ok(line) => Ok(Entry::Zone {
             name: GivenName::of_field(name),
             line,
@@ -35,17 +29,13 @@ pub fn zone_entry<'a>(fields: &Fields<'a>, number: u32, too_many: bool) -> Resul
     }
 }
 
-/// The line that continues a zone, which may be one too many, or the least cause of its fields.
-pub fn continuation_entry<'a>(
-    fields: &Fields<'a>,
-    number: u32,
-    too_many: bool,
-) -> Result<Entry<'a>, Cause>
+/// The line that continues a zone, or the least cause of its fields.
+pub fn continuation_entry<'a>(fields: &Fields<'a>, number: u32) -> Result<Entry<'a>, Cause>
     requires high { fields.now.count ≤ 7 }
     requires whole { length fields.now.first ≡ fields.now.count }
-    ensures { Tells written_entry (line_causes false too_many fields.now.first) (record_of ContinuationLine number fields.now.first) result }
+    ensures { Tells written_entry (line_causes false false fields.now.first) (record_of ContinuationLine number fields.now.first) result }
 {
-    match zone_line(fields, 0, number, false, too_many) {
+    match zone_line(fields, 0, number, false, false) {
         Ok(line) => Ok(Entry::Continuation(line)),
         Err(cause) => Err(cause),
     }

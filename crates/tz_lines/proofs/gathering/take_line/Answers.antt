@@ -1,37 +1,33 @@
-use Rattle.std.proofs.Common.{◌≡◌, Ok, Some, None, sym, ap, ◌∙◌, ◌+◌}
-use Rattle.tz_specs.specs.Contents.{Contents, line_says, contents_after}
+use Rattle.std.proofs.Common.{◌≡◌, ◌+◌, true, ◌||◌, nat_lt, option_map, sym, ap, ◌∙◌}
+use Rattle.tz_specs.specs.Contents.{Contents, contents_after}
 use Rattle.tz_records.specs.Entry.{written_entry}
+use Rattle.tz_records.specs.Counts.{exceeds_said}
 use Rattle.tz_lines.specs.Gathered.{contents_gathered}
 use Rattle.tz_lines.specs.Following.{are_before}
-use Rattle.tz_lines.proofs.Records.{follows, still_before}
-use Rattle.tz_lines.proofs.GatheredLines.{after_blank, after_record, fault_comes}
+use Rattle.tz_lines.proofs.Records.{said_placed, said_before}
+use Rattle.tz_lines.proofs.GatheredLines.{after_said, limit_comes, cause_comes}
 use Rattle.tz_lines.proofs.gathering.take_line.Goals as goal
-
-pub add-requires-clause-may : goal.add-requires-clause-may
-add-requires-clause-may c =
-    let said : line_says (contents_gathered c.args.gathered.now) c.args.number c.args.line.now ≡ Ok (Some (written_entry c.in-Ok-Some.entry)) = rw c.in-Ok-Some.field-0-is at c.in-Ok-Some.ensures.ok in
-    (follows (contents_gathered c.args.gathered.now) c.args.number c.args.line.now (written_entry c.in-Ok-Some.entry) said c.requires.before).may
-
-pub returns-in-Ok-None-clause-ok : goal.returns-in-Ok-None-clause-ok
-returns-in-Ok-None-clause-ok c =
-    let said : line_says (contents_gathered c.args.gathered.now) c.args.number c.args.line.now ≡ Ok None = rw c.in-Ok-None.field-0-is at c.in-Ok-None.ensures.ok in
-    λ lines. after_blank (contents_gathered c.args.gathered.now) c.args.number c.args.line.now lines said
-
-pub returns-in-Ok-None-clause-before : goal.returns-in-Ok-None-clause-before
-returns-in-Ok-None-clause-before c =
-    still_before c.args.number (contents_gathered c.args.gathered.now).sets c.requires.before
-
-pub returns-in_ok-add-in-Ok-Some-clause-ok : goal.returns-in_ok-add-in-Ok-Some-clause-ok
-returns-in_ok-add-in-Ok-Some-clause-ok c =
-    let said : line_says (contents_gathered c.args.gathered.now) c.args.number c.args.line.now ≡ Ok (Some (written_entry c.in-Ok-Some.entry)) = rw c.in-Ok-Some.field-0-is at c.in-Ok-Some.ensures.ok in
-    λ lines. after_record (contents_gathered c.args.gathered.now) c.args.number c.args.line.now lines (written_entry c.in-Ok-Some.entry) said ∙ ap (λ (it : Contents). contents_after it (c.args.number + 1) lines) (sym c.in_ok-add-in-Ok-Some.ensures.contents)
-
-pub returns-in_ok-add-in-Ok-Some-clause-before : goal.returns-in_ok-add-in-Ok-Some-clause-before
-returns-in_ok-add-in-Ok-Some-clause-before c =
-    let said : line_says (contents_gathered c.args.gathered.now) c.args.number c.args.line.now ≡ Ok (Some (written_entry c.in-Ok-Some.entry)) = rw c.in-Ok-Some.field-0-is at c.in-Ok-Some.ensures.ok in
-    let before = (follows (contents_gathered c.args.gathered.now) c.args.number c.args.line.now (written_entry c.in-Ok-Some.entry) said c.requires.before).before in
-    ap (λ (it : Contents). are_before (c.args.number + 1) it.sets) c.in_ok-add-in-Ok-Some.ensures.contents ∙ before
 
 pub returns-in-Err-clause-err : goal.returns-in-Err-clause-err
 returns-in-Err-clause-err c =
-    λ lines. fault_comes (contents_gathered c.args.gathered.now) c.args.number c.number.result c.args.line.now lines c.in-Err.cause c.in-Err.ensures.err c.number.ensures
+    λ lines. rw c.at.ensures (cause_comes (contents_gathered c.args.gathered.now) c.waits.result c.args.number c.args.line.now lines c.in-Err.cause (sym c.waits.ensures) c.in-Err.ensures.err)
+
+pub add-requires-clause-in_place : goal.add-requires-clause-in_place
+add-requires-clause-in_place c =
+    said_placed (contents_gathered c.args.gathered.now) c.waits.result c.args.number c.args.line.now c.in-Ok.said (sym c.waits.ensures) c.in-Ok.ensures.ok c.requires.before
+
+pub returns-in-Ok-add-clause-ok : goal.returns-in-Ok-add-clause-ok
+returns-in-Ok-add-clause-ok c =
+    λ lines. after_said (contents_gathered c.args.gathered.now) c.waits.result c.args.number c.args.line.now lines (option_map written_entry c.in-Ok.said) (sym c.waits.ensures) c.in-Ok.ensures.ok c.in-Ok-add.ensures.limit ∙ ap (λ (it : Contents). contents_after it (c.args.number + 1) lines) (sym c.in-Ok-add.ensures.contents)
+
+pub returns-in-Ok-add-clause-before : goal.returns-in-Ok-add-clause-before
+returns-in-Ok-add-clause-before c =
+    ap (λ (it : Contents). are_before (c.args.number + 1) it.sets) c.in-Ok-add.ensures.contents
+    ∙ said_before (contents_gathered c.args.gathered.now) c.waits.result c.args.number c.args.line.now c.in-Ok.said (sym c.waits.ensures) c.in-Ok.ensures.ok c.requires.before
+
+pub returns-in-Err-Limit-clause-err : goal.returns-in-Err-Limit-clause-err
+returns-in-Err-Limit-clause-err c =
+    let before = contents_gathered c.args.gathered.now in
+    let said = option_map written_entry c.in-Ok.said in
+    let exceeded : (exceeds_said before said || nat_lt 100_000 c.args.number) ≡ true = rw c.in-Err-Limit.field-0-is at c.in-Err-Limit.ensures.limit in
+    λ lines. rw c.at-in-Err-Limit.ensures (limit_comes before c.waits.result c.args.number c.args.line.now lines said (sym c.waits.ensures) c.in-Ok.ensures.ok exceeded)

@@ -25,4 +25,4 @@ pub returns-in-Err-clause-err : goal.returns-in-Err-clause-err
 returns-in-Err-clause-err c =
     let leaps = c.args.contents.now.leaps.items in
     let count : c.len.result ≡ length leaps = search rules in
-    λ lines. cause_comes c.fault.result (contents_meant c.args.contents.now) c.args.number c.args.line.now lines c.in-Err.cause c.fault.ensures (said_after c.args.number c.len.result c.args.line.now leaps (Err c.in-Err.cause) count c.in-Err.ensures.err)
+    λ lines. cause_comes c.at.result (contents_meant c.args.contents.now) c.args.number c.args.line.now lines c.in-Err.cause c.at.ensures (said_after c.args.number c.len.result c.args.line.now leaps (Err c.in-Err.cause) count c.in-Err.ensures.err)

@@ -1,9 +1,9 @@
-use Rattle.std.proofs.Common.{◌≡◌, ◌≤◌, not, length, map, IsTrue, ap, ◌∙◌}
+use Rattle.std.proofs.Common.{◌≡◌, ◌≤◌, length, map, IsTrue, ap, ◌∙◌}
 use Rattle.std.proofs.lemmas.Bool.{and_parts}
 use Rattle.tz_types.specs.Limit.{most_zones}
 use Rattle.tz_types.specs.declared.zone_line.ZoneLine.{ZoneLine}
 use Rattle.tz_specs.specs.Written.{WrittenLine, Continuation, written_zone}
-use Rattle.tz_specs.specs.Contents.{with_line, with_record, last_lines, wants_line, waits, exceeds_lines}
+use Rattle.tz_specs.specs.Contents.{with_line, with_record, last_lines, wants_line, waits}
 use Rattle.tz_records.specs.Entry.{written_entry_line}
 use Rattle.tz_rules.specs.Continued.{is_named_by}
 use Rattle.tz_lines.specs.LastZone.{with_zone_line}
@@ -24,7 +24,7 @@ invariant_of-self-2-clause-continued c =
     let before = c.zone_line.new.self in
     let line = c.in_ok-line.line in
     let zones : c.from_vec.result ≡ with_zone_line line before.zones = c.from_vec.ensures ∙ c.in_ok-continue_last.ensures ∙ ap (with_zone_line line) (c.into_vec-zones.ensures ∙ c.replace.ensures.value) in
-    let waited : IsTrue (waits (contents_gathered before)) = ap waits c.zone_line.ensures.contents ∙ (and_parts (waits (contents_gathered c.args.self.now)) (not (exceeds_lines (contents_gathered c.args.self.now))) c.requires.may).0 in
+    let waited : IsTrue (waits (contents_gathered before)) = ap waits c.zone_line.ensures.contents ∙ c.requires.waits in
     let wanted = (and_parts before.begun (wants_line (last_lines (contents_gathered before).zones)) waited).1 in
     rw zones (continued_with before.names.labels.items line before.zones before.continued wanted)
 
