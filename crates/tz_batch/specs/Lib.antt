@@ -5,5 +5,6 @@ pub mod Finding
 pub mod PassedOver
 pub mod Answering
 pub mod Run
+pub mod Positions
 pub mod Fitting
 pub mod FirstLook

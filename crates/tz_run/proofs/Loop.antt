@@ -12,6 +12,7 @@ use Rattle.tz_script.specs.declared.operation.Operation.{Operation}
 use Rattle.tz_script.specs.declared.script.Script.{Script}
 use Rattle.tz_version.specs.declared.sources.Sources.{Sources}
 use Rattle.tz_batch.specs.Batch.{Answered, each_answered}
+use Rattle.tz_batch.specs.Positions.{PositionsCountWrites}
 use Rattle.tz_batch.specs.Run.{IsRun}
 use Rattle.tz_batch.specs.declared.outcome.Outcome.{Outcome}
 use Rattle.tz_batch.specs.declared.reply.Reply.{Reply}
@@ -22,6 +23,7 @@ use Rattle.tz_run.specs.Asking.{HasHold}
 use Rattle.tz_run.specs.Leading.{Steps, Leads, AreServed}
 use Rattle.tz_run.proofs.Leads.{leads_one_more, same_list}
 use Rattle.tz_run.proofs.HeldNames.{needed_is_open, room_left}
+use Rattle.tz_run.proofs.Positions.{positions_count}
 use Rattle.tz_run.proofs.Assembly.{in_the_lane, served_script, run_of_served}
 
 abbrev answered_at : Operation → Reply → Answered
@@ -121,3 +123,13 @@ outcome_is_run script first last replies (Ok outcome) opening slots served is =
     let made : Outcome = record { journal = last.journal; replies = replies } in
     subst P (sym is) (run_of_served script first.sources first.slots first.room made last
     (served_script script first.sources first.slots first.room made last (omega (arith, slots)) served.0 (subst Q opening served.1) refl))
+
+-- And its positions count the writes.
+pub outcome_counts : (script : Script) (first last : Session) (replies : List Reply) (made : Result Outcome NoMemory) → first ≡ opening_session first.sources first.slots first.room
+    → AreServed first script.operations replies last → IfOk made (λ (outcome : Outcome). outcome ≡ record { journal = last.journal; replies = replies })
+    → IfOk made (λ (outcome : Outcome). PositionsCountWrites outcome.replies)
+outcome_counts script first last replies (Err none) opening served is = tt
+outcome_counts script first last replies (Ok outcome) opening served is =
+    let Q : Session → Type 0 = λ it. Leads it (each_answered script.operations replies) last in
+    let P : Outcome → Type 0 = λ it. PositionsCountWrites it.replies in
+    subst P (sym is) (positions_count script.operations replies first.sources first.slots first.room last served.0 (subst Q opening served.1))

@@ -1,10 +1,14 @@
 -- The positions of a batch that is served.
-use Rattle.std.proofs.Common.{◌≡◌, ℕ, ◌+◌, ◌<◌, ◌≤◌, nat_lt, Bool, true, false, ◌&&◌, List, [], ◌∷◌, ◌++◌, length, fold, filter, count_by, refl, sym, ap, ◌∙◌, append_assoc, length-append, arith}
+use Rattle.std.proofs.Common.{◌≡◌, ℕ, ◌+◌, ◌<◌, ◌≤◌, nat_lt, Bool, true, false, ◌&&◌, List, [], ◌∷◌, ◌++◌, length, fold, filter, count_by, refl, sym, ap, subst, ◌∙◌, append_assoc, length-append, arith}
 use Rattle.std.proofs.lemmas.Bool.{cond_both, lt-ltb, le-ltb}
 use Rattle.std.proofs.lemmas.List.Sums.{sum_by-cons, sum_by-append}
 use Rattle.pin_core.specs.declared.write.Write.{Write}
-use Rattle.tz_batch.specs.Batch.{Batch, Answered, answered, is_write_before, start_of, is_beside, position_before}
+use Rattle.tz_script.specs.declared.operation.Operation.{Operation}
+use Rattle.tz_version.specs.declared.sources.Sources.{Sources}
+use Rattle.tz_batch.specs.Batch.{Batch, Answered, each_answered, answered, tells_write, is_write_before, start_of, is_beside, position_before}
+use Rattle.tz_batch.specs.Positions.{PositionsCountWrites}
 use Rattle.tz_batch.specs.Run.{PositionsDontFall}
+use Rattle.tz_batch.specs.declared.reply.Reply.{Reply}
 use Rattle.tz_run.specs.Session.{Session, opening_session}
 use Rattle.tz_run.specs.Leading.{Steps, Leads}
 use Rattle.tz_run.proofs.Served.{IsServed}
@@ -127,3 +131,42 @@ positions_dont_fall batch room last served before later here is =
       low = omega (arith, low, meeting.position, step);
       high = omega (arith, meeting.position, step, all, same, counted_cons next here later, starts batch room last before later here served is next);
     }
+
+-- ---- one after another ----
+
+-- a reply tells of a write
+abbrev tells_it : Reply → Bool
+tells_it reply = tells_write reply.answer
+
+-- one more reply in front
+told_cons : (reply : Reply) (replies : List Reply) → count_by tells_it (reply ∷ replies) ≡ one_if (tells_it reply) + count_by tells_it replies
+told_cons reply replies = sum_by-cons (λ (it : Reply). one_if (tells_it it)) reply replies
+
+-- the first reply stands at the position after its operation
+first_counts : (first next : Session) (operation : Operation) (reply here : Reply) → Steps first (record { operation = operation; reply = reply }) next → reply ≡ here → here.w ≡ length first.journal + count_by tells_it (here ∷ [])
+first_counts first next operation reply here steps same =
+    let step = one_longer first next (record { operation = operation; reply = reply }) steps in
+    let at : reply.w ≡ length first.journal + one_if (tells_it reply) = omega (arith, steps.position, step) in
+    let moved = subst (λ (it : Reply). it.w ≡ length first.journal + one_if (tells_it it)) same at in
+    omega (arith, moved, told_cons here [])
+
+-- and each later one counts the writes told up to it
+counts : (operations : List Operation) (replies before later : List Reply) (here : Reply) (first last : Session) → length replies ≡ length operations → Leads first (each_answered operations replies) last → replies ≡ before ++ here ∷ later → here.w ≡ length first.journal + count_by tells_it (before ++ here ∷ [])
+counts operations [] [] later here first last long leads is = absurd (omega (arith, ap (λ (those : List Reply). length those) is))
+counts operations [] (other ∷ before) later here first last long leads is = absurd (omega (arith, ap (λ (those : List Reply). length those) is))
+counts [] (reply ∷ replies) before later here first last long leads is = absurd (omega (arith, long))
+counts (operation ∷ operations) (reply ∷ replies) [] later here first last long leads is =
+    let same : reply ≡ here = cc in
+    first_counts first leads.0 operation reply here leads.1 same
+counts (operation ∷ operations) (reply ∷ replies) (other ∷ before) later here first last long leads is =
+    let same : reply ≡ other = cc in
+    let rest : replies ≡ before ++ here ∷ later = cc in
+    let behind = counts operations replies before later here leads.0 last (omega (arith, long)) leads.2 rest in
+    let step = one_longer first leads.0 (record { operation = operation; reply = reply }) leads.1 in
+    let moved = subst (λ (it : Reply). length leads.0.journal ≡ length first.journal + one_if (tells_it it)) same step in
+    omega (arith, behind, moved, told_cons other (before ++ here ∷ []))
+
+-- The positions of replies that lead from the opening on count the writes.
+pub positions_count : (operations : List Operation) (replies : List Reply) (sources : Sources) (slots room : ℕ) (last : Session) → length replies ≡ length operations → Leads (opening_session sources slots room) (each_answered operations replies) last → PositionsCountWrites replies
+positions_count operations replies sources slots room last long leads before later here is =
+    omega (arith, counts operations replies before later here (opening_session sources slots room) last long leads is)

@@ -9,7 +9,7 @@ use Rattle.tz_batch.specs.Batch.{Batch, Answered}
 use Rattle.tz_batch.specs.Run.{TakesFirstSlot, PassesOver, PushesPassOver}
 use Rattle.tz_batch.specs.declared.answer.Answer.{Answer}
 use Rattle.tz_batch.specs.declared.answer.Answer.TheVariants as answers
-use Rattle.tz_run.specs.Session.{Session, is_taken}
+use Rattle.tz_run.specs.Session.{Session, is_slot_taken}
 use Rattle.tz_run.specs.Serving.{ServesReload, Serves}
 use Rattle.tz_run.proofs.Served.{IsServed}
 use Rattle.tz_run.proofs.Leads.{write_of}
@@ -29,7 +29,7 @@ takes_first batch before here now after turn src n slot served =
     subst (λ (w : ℕ). TakesFirstSlot batch before here.operation w slot) (sym met)
     (record {
       lower = λ other low. passed_over batch before here now after turn other (served.2.lower other low);
-      exact = λ one full. both_ways (is_taken now slot) served.2.free (taken_slot batch before here now after turn slot (full slot inside));
+      exact = λ one full. both_ways (is_slot_taken now slot) served.2.free (taken_slot batch before here now after turn slot (full slot inside));
     })
 
 -- the reply to an operation in its turn

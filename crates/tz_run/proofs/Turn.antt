@@ -5,7 +5,7 @@ use Rattle.pin_core.specs.declared.write.Write.{Write}
 use Rattle.pin_core.specs.Replay.{ListState, front_of, is_slot_listed}
 use Rattle.tz_batch.specs.Batch.{Batch, Answered, answered, list_at, newest_at, position_before}
 use Rattle.tz_batch.specs.PassedOver.{IsHeldSlot, MayBeHeld, IsPassedOver, IsFull}
-use Rattle.tz_run.specs.Session.{Session, in_round, list_now, newest_now, is_slot_held, is_taken, IsFilled}
+use Rattle.tz_run.specs.Session.{Session, in_round, list_now, newest_now, is_slot_held, is_slot_taken, IsFilled}
 use Rattle.tz_run.specs.Serving.{Serves}
 use Rattle.tz_run.proofs.Served.{IsServed}
 use Rattle.tz_run.proofs.Leads.{IsSound, session_met, same_in_round, sound_in_round}
@@ -73,7 +73,7 @@ module _ (batch : Batch) (before : List Answered) (here : Answered) (now after :
   position_kept same = turn.position ∙ ap (λ (s : Session). length s.journal) same
 
   -- a slot that is taken is passed over
-  pub passed_over : (slot : ℕ) → is_taken now slot ≡ true → IsPassedOver batch before here.operation (length now.journal) slot
+  pub passed_over : (slot : ℕ) → is_slot_taken now slot ≡ true → IsPassedOver batch before here.operation (length now.journal) slot
   passed_over slot taken =
       ⊎_elim
       (λ (listed : is_slot_listed slot (list_now now).listed ≡ true).
@@ -88,7 +88,7 @@ module _ (batch : Batch) (before : List Answered) (here : Answered) (now after :
           subst P (sym turn.one_lane) (λ held. held)
 
   -- and the other way round
-  pub taken_slot : (slot : ℕ) → IsPassedOver batch before here.operation (length now.journal) slot → is_taken now slot ≡ true
+  pub taken_slot : (slot : ℕ) → IsPassedOver batch before here.operation (length now.journal) slot → is_slot_taken now slot ≡ true
   taken_slot slot passed =
       ⊎_elim
       (λ (listed : IsTrue (is_slot_listed slot (list_at batch (length now.journal)).listed)).

@@ -56,18 +56,18 @@ abbrev pub is_slot_held : ℕ → List Hold → Bool
 is_slot_held slot holds = list_any (λ (hold : Hold). hold.slot == slot) holds
 
 -- the slot is taken: it is listed, or a hold is open on a version in it
-abbrev pub is_taken : Session → ℕ → Bool
-is_taken session slot = is_slot_listed slot (list_now session).listed || is_slot_held slot session.holds
+abbrev pub is_slot_taken : Session → ℕ → Bool
+is_slot_taken session slot = is_slot_listed slot (list_now session).listed || is_slot_held slot session.holds
 
 -- the least slot that isn't taken
 pub record IsFirstFree (session : Session) (slot : ℕ) : Type 0 where
   pub inside : slot < session.slots
-  pub free : is_taken session slot ≡ false
-  pub lower : (other : ℕ) → other < slot → IsTrue (is_taken session other)
+  pub free : is_slot_taken session slot ≡ false
+  pub lower : (other : ℕ) → other < slot → IsTrue (is_slot_taken session other)
 
 -- every slot is taken
 abbrev pub IsFilled : Session → Type 0
-IsFilled session = (slot : ℕ) → slot < session.slots → IsTrue (is_taken session slot)
+IsFilled session = (slot : ℕ) → slot < session.slots → IsTrue (is_slot_taken session slot)
 
 -- the session after one more write, by the first reader
 abbrev pub with_change : Session → Change → Session

@@ -15,7 +15,7 @@ ghost use Rattle.pin_core.specs.declared.after_error.AfterError.TheVariants as a
 ghost use Rattle.pin_core.specs.Replay.{allowed, is_listed, greatest_below};
 ghost use Rattle.tz_batch.specs.Batch.{row_of};
 ghost use Rattle.tz_run.specs.declared.hold.Hold.{Hold};
-ghost use Rattle.tz_run.specs.Session.{opening_session, in_round, list_now, newest_now, is_taken, HoldsAs, Picks, IsFirstFree, IsFilled, with_change};
+ghost use Rattle.tz_run.specs.Session.{opening_session, in_round, list_now, newest_now, is_slot_taken, HoldsAs, Picks, IsFirstFree, IsFilled, with_change};
 ghost use Rattle.tz_run.specs.Serving.{hold_at};
 ghost use Rattle.tz_run.specs.Asking.{HasHold};
 ghost use Rattle.tz_run.specs.Loan.{edition_lent};
@@ -187,8 +187,8 @@ impl<'s> Desk<'s> {
     }
 
     /// Whether a slot is taken: it is listed, or a hold is open on a version in it.
-    fn is_taken(&self, slot: u32) -> bool
-        ensures { result ≡ is_taken self.now slot }
+    fn is_slot_taken(&self, slot: u32) -> bool
+        ensures { result ≡ is_slot_taken self.now slot }
     {
         self.book.is_slot_listed(slot) || is_slot_held(self.holds.as_slice(), slot)
     }
@@ -206,7 +206,7 @@ impl<'s> Desk<'s> {
         ensures none { IsNone result → IsFilled self.now }
     {
         for slot in 0..self.slots() {
-            if !self.is_taken(slot) {
+            if !self.is_slot_taken(slot) {
                 return Some(slot);
             }
         }

@@ -5,6 +5,7 @@ ghost use Rattle.tz_script.specs.Inside.{change_count};
 ghost use Rattle.tz_script.specs.Keeping.{KeepsSources};
 ghost use Rattle.tz_version.specs.Refusal.{RefusesLeapText, RefusesSource};
 ghost use Rattle.pin_core.specs.declared.limits.TheConstants.{FEWEST_SLOTS, MOST_SLOTS};
+ghost use Rattle.tz_batch.specs.Positions.{PositionsCountWrites};
 ghost use Rattle.tz_batch.specs.Run.{IsRun};
 ghost use Rattle.tz_run.specs.Session.{opening_session};
 ghost use Rattle.tz_run.specs.Leading.{AreServed};
@@ -78,14 +79,16 @@ fn run_at<G: Gate>(
     requires room { change_count script.now.operations ≤ desk.room }
     requires there { KeepsSources (length desk.sources.texts) script.now.operations }
     requires slots { FEWEST_SLOTS ≤ desk.slots }
-    ensures { IfOk result (λ outcome. IsRun script.now desk.entry.sources desk.entry.slots outcome) }
+    ensures run { IfOk result (λ outcome. IsRun script.now desk.entry.sources desk.entry.slots outcome) }
+    ensures positions { IfOk result (λ outcome. PositionsCountWrites outcome.replies) }
 {
     let replies = serve_all(rt, alloc, script, gate, &mut desk)?;
     outcome_at(alloc, &desk, replies)
 }
 
 /// Runs a script of one lane over these sources, in a list of so many slots that begins with the version of the first
-/// source. Before each operation the gate is passed.
+/// source. Before each operation the gate is passed. Each operation is done before the next one, so that a position is
+/// how many writes the replies up to it tell of.
 ///
 /// `NoMemory` may come at any time. Memory aside, `Leaps` comes exactly where the leap text is refused, with its fault,
 /// and `Text` exactly where the leap text is accepted and the first source refused, with the source's. A source that is
@@ -101,6 +104,7 @@ pub fn run_script<G: Gate>(
     requires slots { (FEWEST_SLOTS ≤ slots) × (slots ≤ MOST_SLOTS) }
     requires sources { KeepsSources (length sources.now.texts) script.now.operations }
     ensures run { IfOk result (λ outcome. IsRun script.now sources.now slots outcome) }
+    ensures positions { IfOk result (λ outcome. PositionsCountWrites outcome.replies) }
     ensures leaps { (fault : Fault) → ¬ (result ≡ Err MakeError.NoMemory) → (result ≡ Err (MakeError.Leaps fault)) ↔ RefusesLeapText sources.now.leaps fault }
     ensures text { (fault : Fault) → ¬ (result ≡ Err MakeError.NoMemory) → (result ≡ Err (MakeError.Text fault)) ↔ RefusesSource sources.now 0 fault }
 {

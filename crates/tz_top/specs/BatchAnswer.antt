@@ -8,6 +8,7 @@ use Rattle.tz_version.specs.Refusal.{RefusesSource}
 use Rattle.tz_version.specs.declared.sources.Sources.{Sources}
 use Rattle.tz_batch.specs.Answering.{IsAccepted}
 use Rattle.tz_batch.specs.OutcomeText.{outcome_text}
+use Rattle.tz_batch.specs.Positions.{PositionsCountWrites}
 use Rattle.tz_batch.specs.Run.{IsRun}
 use Rattle.tz_batch.specs.declared.outcome.Outcome.{Outcome}
 use Rattle.tz_cli.specs.BatchCommand.{BatchCommand}
@@ -19,12 +20,13 @@ use Rattle.tz_top.specs.BatchTexts.{AreTextsOf}
 use Rattle.tz_top.specs.Groups.{is_too_large}
 
 -- The text reads as a script that may name these sources, a version is made of the first source, and the outcome is one
--- that a run of the script may give, over the sources and in a list of so many slots.
+-- that a run of the script may give, over the sources and in a list of so many slots, one operation after another.
 pub record IsBatchOutcome (slots : ℕ) (text : List ℕ) (sources : Sources) (outcome : Outcome) : Type 0 where
   pub script : Script
   pub reads : ReadsScript (length sources.texts) text script
   pub opens : IsAccepted sources 0
   pub run : IsRun script sources slots outcome
+  pub positions : PositionsCountWrites outcome.replies
 
 -- The text is refused as a script that may name so many sources, and the line says with which fault.
 abbrev pub IsScriptRefusal : ℕ → List ℕ → List ℕ → Type 0

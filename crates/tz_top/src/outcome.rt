@@ -5,6 +5,7 @@ ghost use Rattle.tz_script.specs.Keeping.{KeepsSources};
 ghost use Rattle.tz_script.specs.Script.{ReadsScript};
 ghost use Rattle.pin_core.specs.declared.limits.TheConstants.{FEWEST_SLOTS, MOST_SLOTS};
 ghost use Rattle.tz_batch.specs.Answering.{IsAccepted};
+ghost use Rattle.tz_batch.specs.Positions.{PositionsCountWrites};
 ghost use Rattle.tz_batch.specs.Run.{IsRun};
 ghost use Rattle.tz_cli.specs.Refusal.{Gives};
 ghost use Rattle.tz_top.specs.BatchAnswer.{BatchAnswers};
@@ -46,6 +47,7 @@ fn outcome_of<G: Gate>(
     requires slots { (FEWEST_SLOTS ≤ slots) × (slots ≤ MOST_SLOTS) }
     requires sources { KeepsSources (length sources.now.texts) script.now.operations }
     ensures run { IfOk result (λ outcome. IsRun script.now sources.now slots outcome) }
+    ensures positions { IfOk result (λ outcome. PositionsCountWrites outcome.replies) }
     ensures opens { IfOk result (λ _. IsAccepted sources.now 0) }
     ensures refused { IfErr result (λ refusal. RefusesToOpen sources.now refusal) }
 {

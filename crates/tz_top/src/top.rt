@@ -42,7 +42,7 @@ pub fn run<F: Files, S: Sink, G: Gate>(
         × Appends (S.taken sink.old) (S.taken sink.new) (outcome_text outcome) }
 
     // All that was printed is the line that is due at the status, and the status has its reason: 4 in the script, 3 in
-    // the script's leap text or first text, or in the text of another command, 0, 8, 9, 10, 14 and 15 in the text, 11 in
+    // the batch's leap text or first text, or in the text of another command, 0, 8, 9, 10, 14 and 15 in the text, 11 in
     // the size of the files, 5 in a fault of the next file that was counted in this call.
     ensures whole { result ≢ Status.Write →
         (line : List ℕ) × IsDueOfAny (words_of words.now) (F.told files.old) (Failed (F.faults files.old) (F.faults files.new)) result line
@@ -59,21 +59,22 @@ pub fn run<F: Files, S: Sink, G: Gate>(
     ensures usage { result ≡ Status.Usage → IsNoCommand (words_of words.now) }
     ensures no_command { IsNoCommand (words_of words.now) → (result ≡ Status.Usage) ⊎ (result ≡ Status.Write) }
 
-    // Where no fault and no stall was counted, an answer over the contents has its status, but for want of memory: that
-    // of `batch`, and that of any other command.
+    // Where no fault and no stall was counted, an answer of `batch` over the contents has its status, but for want of
+    // memory.
     ensures exact_batch { (batch : BatchCommand) (contents : List (List (List ℕ))) (status : DeclaredStatus) (line : List ℕ) →
         IsBatchCommand (words_of words.now) batch → HoldsGroups (F.told files.old) (file_groups batch) contents →
         IsBatchAnswer batch contents status line →
         ¬ (AnyFailed (Failed (F.faults files.old) (F.faults files.new)) (file_groups batch)) →
         ¬ (Rose (S.faults sink.old) (S.faults sink.new)) → ¬ (Rose (S.stalls sink.old) (S.stalls sink.new)) →
         (result ≡ status) ⊎ (result ≡ Status.Memory) }
-    // A batch whose script is read, and of whose first text a version is made, has the status 0 there.
+    // There a batch whose script is read, and of whose first text a version is made, has the status 0.
     ensures complete { (batch : BatchCommand) (contents : List (List (List ℕ))) →
         IsBatchCommand (words_of words.now) batch → HoldsGroups (F.told files.old) (file_groups batch) contents →
         IsAcceptedBatch batch contents →
         ¬ (AnyFailed (Failed (F.faults files.old) (F.faults files.new)) (file_groups batch)) →
         ¬ (Rose (S.faults sink.old) (S.faults sink.new)) → ¬ (Rose (S.stalls sink.old) (S.stalls sink.new)) →
         (result ≡ Status.Ok) ⊎ (result ≡ Status.Memory) }
+    // There an answer of any other command has its status, with the same exception.
     ensures exact { (command : Command) (contents : List (List ℕ)) (status : DeclaredStatus) (line : List ℕ) →
         IsCommand (words_of words.now) command → AllZip (Holds (F.told files.old)) (files_of command) contents →
         IsAnswer command contents status line →

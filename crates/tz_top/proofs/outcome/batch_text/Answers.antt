@@ -19,4 +19,4 @@ returns-in-Ok-outcome_text g c =
     let same : c.from_arc-sources.result ≡ c.args.texts.sources = c.from_arc-sources.ensures ∙ c.in-Ok-new.ensures.ok in
     let opens = subst (λ (sources : Sources). IsAccepted sources 0) same c.in-Ok-outcome_of.ensures.opens in
     let run = subst (λ (sources : Sources). IsRun c.in-Ok.script sources c.args.slots c.in-Ok-outcome_of.outcome) same c.in-Ok-outcome_of.ensures.run in
-    (c.in-Ok-outcome_of.outcome, record { script = c.in-Ok.script; reads = reads; opens = opens; run = run }, c.in-Ok-outcome_text.ensures)
+    (c.in-Ok-outcome_of.outcome, record { script = c.in-Ok.script; reads = reads; opens = opens; run = run; positions = c.in-Ok-outcome_of.ensures.positions }, c.in-Ok-outcome_text.ensures)
