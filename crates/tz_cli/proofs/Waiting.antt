@@ -30,18 +30,18 @@ put_then before between now had middle has waited meanwhile waits first second p
   written = put.written ++ next.written;
   taken = in_turn had middle has put.written next.written put.taken next.taken;
   whole =
-    append_assoc put.written next.written waits
-    ∙ ap (λ text. put.written ++ text) next.whole
-    ∙ sym (append_assoc put.written meanwhile second)
-    ∙ ap (λ text. text ++ second) put.whole
-    ∙ append_assoc waited first second;
+      append_assoc put.written next.written waits
+      ∙ ap (λ text. put.written ++ text) next.whole
+      ∙ sym (append_assoc put.written meanwhile second)
+      ∙ ap (λ text. text ++ second) put.whole
+      ∙ append_assoc waited first second;
 }
 
 -- a text that was put, and one behind it that stops
 pub put_stopped : (stop : Stop) (before between now : ℕ × ℕ) (had middle has : Option (List ℕ)) (waited meanwhile first rest : List ℕ) → IsPut before between had middle waited meanwhile first → IsStopped stop between now middle has (meanwhile ++ rest) → IsStopped stop before now had has (waited ++ (first ++ rest))
 put_stopped stop before between now had middle has waited meanwhile first rest put stopped =
     let whole : put.written ++ (meanwhile ++ rest) ≡ waited ++ (first ++ rest) =
-        sym (append_assoc put.written meanwhile rest) ∙ ap (λ text. text ++ rest) put.whole ∙ append_assoc waited first rest in
+    sym (append_assoc put.written meanwhile rest) ∙ ap (λ text. text ++ rest) put.whole ∙ append_assoc waited first rest in
     rw (← whole) (stopped_later stop before between now had middle has put.written (meanwhile ++ rest) put.calm put.taken stopped)
 
 -- what one element of a list makes, between what those before it and those behind it make
@@ -58,9 +58,9 @@ put_stopped_at f xs place x is low stop before between now had middle has waited
     let first = flat_map f (take place xs) in
     let last = flat_map f (drop (place + 1) xs) in
     let whole : first ++ (f x ++ (last ++ later)) ≡ flat_map f xs ++ later =
-        ap (λ text. first ++ text) (sym (append_assoc (f x) last later))
-        ∙ sym (append_assoc first (f x ++ last) later)
-        ∙ ap (λ text. text ++ later) (flat_around f xs place x is low) in
+    ap (λ text. first ++ text) (sym (append_assoc (f x) last later))
+    ∙ sym (append_assoc first (f x ++ last) later)
+    ∙ ap (λ text. text ++ later) (flat_around f xs place x is low) in
     subst (λ (text : List ℕ). IsStopped stop before now had has (waited ++ text)) whole
     (put_stopped stop before between now had middle has waited meanwhile first (f x ++ (last ++ later)) put (stopped (last ++ later)))
 

@@ -39,11 +39,7 @@ impl From<NoMemory> for Stop {
 }
 
 /// Puts the line of a range behind the text that waits.
-fn put_range_line<S: Sink>(
-    waiting: &mut Vec<u8>,
-    range: &SysInfo,
-    sink: &mut S,
-) -> Result<(), Stop>
+fn put_range_line<S: Sink>(waiting: &mut Vec<u8>, range: &SysInfo, sink: &mut S) -> Result<(), Stop>
     ensures ok { OnOk result (IsPut (S.faults sink.old, S.stalls sink.old) (S.faults sink.new, S.stalls sink.new) (S.taken sink.old) (S.taken sink.new) waiting.old.items waiting.new.items (range_line range.now)) }
     ensures stopped { IfErr result (λ stop. (later : List ℕ) →
         IsStopped stop (S.faults sink.old, S.stalls sink.old) (S.faults sink.new, S.stalls sink.new) (S.taken sink.old) (S.taken sink.new) (waiting.old.items ++ (range_line range.now ++ later))) }
@@ -62,11 +58,7 @@ fn put_line(out: &mut Vec<u8>, range: &SysInfo) -> Result<(), NoMemory>
 }
 
 /// Puts a line for each range behind the text that waits.
-fn put_ranges<S: Sink>(
-    waiting: &mut Vec<u8>,
-    ranges: &[SysInfo],
-    sink: &mut S,
-) -> Result<(), Stop>
+fn put_ranges<S: Sink>(waiting: &mut Vec<u8>, ranges: &[SysInfo], sink: &mut S) -> Result<(), Stop>
     ensures ok { OnOk result (IsPut (S.faults sink.old, S.stalls sink.old) (S.faults sink.new, S.stalls sink.new) (S.taken sink.old) (S.taken sink.new) waiting.old.items waiting.new.items (flat_map range_line ranges.now)) }
     ensures stopped { IfErr result (λ stop. (later : List ℕ) →
         IsStopped stop (S.faults sink.old, S.stalls sink.old) (S.faults sink.new, S.stalls sink.new) (S.taken sink.old) (S.taken sink.new) (waiting.old.items ++ (flat_map range_line ranges.now ++ later))) }
