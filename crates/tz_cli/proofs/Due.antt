@@ -6,7 +6,7 @@ use Rattle.tz_types.specs.Source.{bytes_together}
 use Rattle.tz_cli.specs.Command.{Command, Info, Local, Moves, Days, Tzif, Dump, Check, Clock, IsCommand, files_of}
 use Rattle.tz_cli.specs.Answer.{TextAnswers, IsAnswer}
 use Rattle.tz_cli.specs.Outcome.{FileContents, Holds, IsDueFor, IsDue}
-use Rattle.tz_cli.specs.Refusal.{Refuses, refusal_status, refusal_line}
+use Rattle.tz_cli.specs.Refusal.{IsRefusal, refusal_status, refusal_line}
 use Rattle.tz_cli.specs.declared.status.Status.{Status}
 use Rattle.tz_cli.specs.declared.status.Status.TheVariants as statuses
 use Rattle.tz_cli.specs.declared.refusal.Refusal.{Refusal}
@@ -35,7 +35,7 @@ for_words words told failed command statuses.Usage line is due =
 for_words words told failed command status line is due = (command, is, due)
 
 -- the line of a refusal is due at its status
-pub refusal_due : (command : Command) (told : Option FileContents) (failed : List ℕ → Type 0) (refusal : Refusal) → Refuses (IsDueFor command told failed) refusal → IsDueFor command told failed (refusal_status refusal) (refusal_line refusal)
+pub refusal_due : (command : Command) (told : Option FileContents) (failed : List ℕ → Type 0) (refusal : Refusal) → IsRefusal (IsDueFor command told failed) refusal → IsDueFor command told failed (refusal_status refusal) (refusal_line refusal)
 refusal_due command told failed refusals.Memory refused = inl refl
 refusal_due command told failed refusal refused = refused
 

@@ -44,11 +44,6 @@ zip_at R (z ∷ xs) [] place x y all low = absurd all
 zip_at R (z ∷ xs) (w ∷ ys) zero x y all low = all.0
 zip_at R (z ∷ xs) (w ∷ ys) (suc place) x y all low = zip_at R xs ys place x y all.1 (omega arith)
 
--- one more zone with its ranges
-pub next_zone : (from to : ℤ) (zones : List CompiledZone) (place : ℕ) (zone : CompiledZone) (ranges : List SysInfo) (text now : List ℕ) → zone ≡ get_or zones place zone → place < length zones → ranges ≡ ranges_between zone from to → text ≡ compiled_texts from to (take place zones) → now ≡ text ++ zone_lines zone.name ranges → now ≡ compiled_texts from to (take (place + 1) zones)
-next_zone from to zones place zone ranges text now at low are before more =
-    more ∙ ap (λ ranges. text ++ zone_lines zone.name ranges) are ∙ ap (λ text. text ++ compiled_text from to zone) before ∙ sym (flat_next (compiled_text from to) zones place zone at low)
-
 -- what is taken of two texts in turn is taken of both
 pub in_turn : (had between has : Option (List ℕ)) (first second : List ℕ) → Appends had between first → Appends between has second → Appends had has (first ++ second)
 in_turn None None has first second p q = q

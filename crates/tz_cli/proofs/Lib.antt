@@ -12,6 +12,7 @@ pub mod ZoneFiles
 pub mod Once
 pub mod Due
 pub mod Dumps
+pub mod Waiting
 pub mod Outputs
 pub mod NamedZone
 pub mod LocalLine

@@ -1,5 +1,5 @@
 -- How the text of a dump comes out, piece by piece.
-use Rattle.std.specs.Prelude.{◌≡◌, ℕ, List, ◌⊎◌, ℤ, Option, take}
+use Rattle.std.specs.Prelude.{◌≡◌, ℕ, List, ◌++◌, ◌⊎◌, ℤ, Option, take}
 use Rattle.std.specs.List.{flat_map}
 use Rattle.tz_expand.specs.declared.compiled_zone.CompiledZone.{CompiledZone}
 use Rattle.tz_expand.specs.Stretch.{ranges_between}
@@ -24,3 +24,12 @@ IsStopped stops.Memory before now had has text =
     (now ≡ before) × (count : ℕ) × Appends had has (take count text)
 IsStopped stops.Write before now had has text =
     AppendsPart had has text × (Rose before.0 now.0 ⊎ Rose before.1 now.1)
+
+-- A text was put behind what waited to be written, by the counts of faults and stalls before and now, what was taken
+-- before and now, and what waited before and waits now: no count rose, and what was written since and what waits now are
+-- together what waited before, and the text.
+pub record IsPut (before now : ℕ × ℕ) (had has : Option (List ℕ)) (waited waits text : List ℕ) : Type 0 where
+  pub calm : now ≡ before
+  pub written : List ℕ
+  pub taken : Appends had has written
+  pub whole : written ++ waits ≡ waited ++ text

@@ -2,7 +2,7 @@
 use Rattle.std.specs.Prelude.{ℕ, Bool, true, false, List, Result, Ok, Err, Vec}
 use Rattle.std.specs.declared.alloc.Global.{Global}
 use Rattle.tz_cli.specs.Dumping.{compiled_texts}
-use Rattle.tz_cli.specs.Refusal.{Refuses}
+use Rattle.tz_cli.specs.Refusal.{IsRefusal}
 use Rattle.tz_cli.specs.declared.output.Output.{Output}
 use Rattle.tz_cli.specs.declared.output.Output.TheVariants as outputs
 use Rattle.tz_cli.specs.declared.refusal.Refusal.{Refusal}
@@ -30,7 +30,7 @@ is_in_pieces (outputs.Zones dump) = true
 -- What a command comes to, an output or a refusal, is one of these answers.
 abbrev pub GivesOutput : (Status → List ℕ → Type 0) → Result Output Refusal → Type 0
 GivesOutput answers (Ok output) = answers (output_status output) (output_text output)
-GivesOutput answers (Err refusal) = Refuses answers refusal
+GivesOutput answers (Err refusal) = IsRefusal answers refusal
 
 -- a line that was made whole, or its refusal
 abbrev pub as_output : Result (Vec ℕ Global) Refusal → Result Output Refusal

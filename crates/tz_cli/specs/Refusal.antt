@@ -38,19 +38,19 @@ refusal_line refusals.Designations = codes "designations\n"
 refusal_line refusals.Memory = codes "memory\n"
 
 -- Want of memory may come at any time; any other refusal has a reason: its status and its line are an answer.
-abbrev pub Refuses : (Status → List ℕ → Type 0) → Refusal → Type 0
-Refuses answers refusals.Memory = Unit {0}
-Refuses answers refusal = answers (refusal_status refusal) (refusal_line refusal)
+abbrev pub IsRefusal : (Status → List ℕ → Type 0) → Refusal → Type 0
+IsRefusal answers refusals.Memory = Unit {0}
+IsRefusal answers refusal = answers (refusal_status refusal) (refusal_line refusal)
 
 -- What a step comes to, a text or a refusal, is one of these answers.
 abbrev pub Gives : (Status → List ℕ → Type 0) → Result (Vec ℕ Global) Refusal → Type 0
 Gives answers (Ok line) = answers statuses.Ok line.items
-Gives answers (Err refusal) = Refuses answers refusal
+Gives answers (Err refusal) = IsRefusal answers refusal
 
 -- want of memory, or the source is refused
 abbrev pub RefusesAsText : Source → Refusal → Type 0
 RefusesAsText source refusals.Memory = Unit {0}
-RefusesAsText source (refusals.Text fault) = texts.Refuses source fault
+RefusesAsText source (refusals.Text fault) = texts.IsRefusal source fault
 RefusesAsText source _ = ⊥
 
 -- want of memory, or out of range for that reason

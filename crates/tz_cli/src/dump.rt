@@ -1,25 +1,26 @@
-//! The text of `dump`: for each zone its name, and its ranges that meet a stretch of time.
-ghost use Rattle.std.specs.Prelude.{◌≡◌, ◌≤◌, ◌<◌, ◌+◌, ◌++◌, ◌⊎◌, ℕ, ℤ, List, length, take, drop, slice_get, Some, IsTrue, IfOk, IfErr, OnOk, OnErr};
+//! The text of `dump`: for each zone its name, and its ranges that meet a stretch of time. It is written while it is made, so
+//! that at any time only ranges of a group of zones are kept, and text of one piece.
+ghost use Rattle.std.specs.Prelude.{◌≡◌, ◌≤◌, ◌<◌, ◌+◌, ◌++◌, ℕ, ℤ, List, length, take, drop, codes, slice_get, Some, IsTrue, IfOk, IfErr, OnOk};
 ghost use Rattle.std.specs.List.{flat_map, AllZip};
 ghost use Rattle.tz_types.specs.declared.zone.Zone.{Zone};
 ghost use Rattle.tz_specs.specs.Sound.{is_sound};
-ghost use Rattle.tz_io.specs.Counts.{Rose};
-ghost use Rattle.tz_io.specs.Sink.{Appends, AppendsPart};
+ghost use Rattle.tz_io.specs.Sink.{Appends};
 ghost use Rattle.tz_expand.specs.Stretch.{IsStretch, ranges_between};
 ghost use Rattle.tz_cli.specs.Line.{range_line};
 ghost use Rattle.tz_cli.specs.Dump.{zone_lines, zone_text, dump_text};
-ghost use Rattle.tz_cli.specs.Dumping.{compiled_texts, IsStopped};
+ghost use Rattle.tz_cli.specs.Dumping.{compiled_texts, IsPut, IsStopped};
 ghost use Rattle.tz_cli.specs.declared.dump.Stop.TheVariants as stops;
 
+use crate::pieces::{room_for_a_piece, write_enough, write_text};
 use std::alloc::Global;
 use std::sync::Arc;
 use std::thread::Threads;
 use tz_expand::{CompiledZone, compile, dump_zones};
-use tz_io::{Sink, put_all};
+use tz_io::Sink;
 use tz_output::put_range;
 use tz_types::{Db, NoMemory, Shared, SysInfo};
 
-/// How many zones are expanded at once. Their text is written before that of the next ones is made.
+/// How many zones are expanded at once. Their ranges are let go before those of the next ones are made.
 const GROUP: usize = 16;
 
 /// Why a dump ended early.
@@ -29,14 +30,22 @@ pub enum Stop {
     Write,
 }
 
-/// Puts a line for each range at the end of a text.
-fn put_ranges(out: &mut Vec<u8>, ranges: &[SysInfo]) -> Result<(), NoMemory>
-    ensures { OnOk result (out.new.items ≡ out.old.items ++ flat_map range_line ranges.now) }
-{
-    for range in ranges {
-        put_line(out, range)?;
+impl From<NoMemory> for Stop {
+    ghost from_gives = { λ _ stop. stop ≡ stops.Memory };
+
+    fn from(_: NoMemory) -> Self {
+        Stop::Memory
     }
-    Ok(())
+}
+
+/// Puts the line of a range behind the text that waits.
+fn put_range_line<S: Sink>(waiting: &mut Vec<u8>, range: &SysInfo, sink: &mut S) -> Result<(), Stop>
+    ensures ok { OnOk result (IsPut (S.faults sink.old, S.stalls sink.old) (S.faults sink.new, S.stalls sink.new) (S.taken sink.old) (S.taken sink.new) waiting.old.items waiting.new.items (range_line range.now)) }
+    ensures stopped { IfErr result (λ stop. (later : List ℕ) →
+        IsStopped stop (S.faults sink.old, S.stalls sink.old) (S.faults sink.new, S.stalls sink.new) (S.taken sink.old) (S.taken sink.new) (waiting.old.items ++ (range_line range.now ++ later))) }
+{
+    put_line(waiting, range)?;
+    write_enough(waiting, sink)
 }
 
 /// Puts the line of a range at the end of a text.
@@ -48,90 +57,84 @@ fn put_line(out: &mut Vec<u8>, range: &SysInfo) -> Result<(), NoMemory>
     Ok(())
 }
 
-/// Puts a zone's name and its ranges at the end of a text.
-fn put_zone(out: &mut Vec<u8>, zone: &CompiledZone, ranges: &[SysInfo]) -> Result<(), NoMemory>
-    ensures { OnOk result (out.new.items ≡ out.old.items ++ zone_lines zone.now.name ranges.now) }
+/// Puts a line for each range behind the text that waits.
+fn put_ranges<S: Sink>(waiting: &mut Vec<u8>, ranges: &[SysInfo], sink: &mut S) -> Result<(), Stop>
+    ensures ok { OnOk result (IsPut (S.faults sink.old, S.stalls sink.old) (S.faults sink.new, S.stalls sink.new) (S.taken sink.old) (S.taken sink.new) waiting.old.items waiting.new.items (flat_map range_line ranges.now)) }
+    ensures stopped { IfErr result (λ stop. (later : List ℕ) →
+        IsStopped stop (S.faults sink.old, S.stalls sink.old) (S.faults sink.new, S.stalls sink.new) (S.taken sink.old) (S.taken sink.new) (waiting.old.items ++ (flat_map range_line ranges.now ++ later))) }
+{
+    for range in ranges {
+        put_range_line(waiting, range, sink)?;
+    }
+    Ok(())
+}
+
+/// Puts the line of a zone's name at the end of a text.
+fn put_name(out: &mut Vec<u8>, zone: &CompiledZone) -> Result<(), NoMemory>
+    ensures { OnOk result (out.new.items ≡ out.old.items ++ (codes "zone " ++ zone.now.name ++ codes "\n")) }
 {
     out.extend_from_slice(b"zone ")?;
     out.extend_from_slice(zone.name.as_bytes())?;
     out.extend_from_slice(b"\n")?;
-    put_ranges(out, ranges)
+    Ok(())
 }
 
-/// The text of zones whose ranges are given.
-fn text_of(
-    alloc: Global,
+/// Puts a zone's name and its ranges behind the text that waits.
+fn put_zone<S: Sink>(
+    waiting: &mut Vec<u8>,
+    zone: &CompiledZone,
+    ranges: &[SysInfo],
+    sink: &mut S,
+) -> Result<(), Stop>
+    ensures ok { OnOk result (IsPut (S.faults sink.old, S.stalls sink.old) (S.faults sink.new, S.stalls sink.new) (S.taken sink.old) (S.taken sink.new) waiting.old.items waiting.new.items (zone_lines zone.now.name ranges.now)) }
+    ensures stopped { IfErr result (λ stop. (later : List ℕ) →
+        IsStopped stop (S.faults sink.old, S.stalls sink.old) (S.faults sink.new, S.stalls sink.new) (S.taken sink.old) (S.taken sink.new) (waiting.old.items ++ (zone_lines zone.now.name ranges.now ++ later))) }
+{
+    put_name(waiting, zone)?;
+    put_ranges(waiting, ranges, sink)
+}
+
+/// Puts zones whose ranges are given behind the text that waits.
+fn put_zones<S: Sink>(
+    waiting: &mut Vec<u8>,
     zones: &[Shared<CompiledZone>],
     dump: &[Vec<SysInfo>],
     from: i64,
     to: i64,
-) -> Result<Vec<u8>, NoMemory>
+    sink: &mut S,
+) -> Result<(), Stop>
     requires counted { length zones.now ≡ length dump.now }
     requires are { AllZip (λ zone ranges. ranges.items ≡ ranges_between zone from to) zones.now dump.now }
-    ensures { IfOk result (λ text. text.items ≡ compiled_texts from to zones.now) }
+    ensures ok { OnOk result (IsPut (S.faults sink.old, S.stalls sink.old) (S.faults sink.new, S.stalls sink.new) (S.taken sink.old) (S.taken sink.new) waiting.old.items waiting.new.items (compiled_texts from to zones.now)) }
+    ensures stopped { IfErr result (λ stop. (later : List ℕ) →
+        IsStopped stop (S.faults sink.old, S.stalls sink.old) (S.faults sink.new, S.stalls sink.new) (S.taken sink.old) (S.taken sink.new) (waiting.old.items ++ (compiled_texts from to zones.now ++ later))) }
 {
-    let mut text = Vec::new(alloc);
     for place in 0..zones.len() {
-        put_zone(&mut text, zones[place].get(), dump[place].as_slice())?;
+        put_zone(waiting, zones[place].get(), dump[place].as_slice(), sink)?;
     }
-    Ok(text)
+    Ok(())
 }
 
-/// The text of some zones, which are expanded at once.
-fn group_text(
+/// Puts some zones, which are expanded at once, behind the text that waits.
+fn put_group<S: Sink>(
     rt: &(impl Threads + Sync),
     alloc: Global,
-    zones: &[Shared<CompiledZone>],
-    from: i64,
-    to: i64,
-) -> Result<Vec<u8>, NoMemory>
-    requires { IsStretch from to }
-    ensures { IfOk result (λ text. text.items ≡ compiled_texts from to zones.now) }
-{
-    let dump = dump_zones(rt, alloc, zones, from, to)?;
-    text_of(alloc, zones, dump.as_slice(), from, to)
-}
-
-/// Writes a text whole.
-fn write_text<S: Sink>(text: &[u8], sink: &mut S) -> Result<(), Stop>
-    ensures ok { OnOk result (Appends (S.taken sink.old) (S.taken sink.new) text.now) }
-    ensures calm { OnOk result ((S.faults sink.new ≡ S.faults sink.old) × (S.stalls sink.new ≡ S.stalls sink.old)) }
-    ensures is { IfErr result (λ stop. stop ≡ stops.Write) }
-    ensures part { OnErr result (AppendsPart (S.taken sink.old) (S.taken sink.new) text.now) }
-    ensures rose { OnErr result (Rose (S.faults sink.old) (S.faults sink.new) ⊎ Rose (S.stalls sink.old) (S.stalls sink.new)) }
-{
-    match put_all(sink, text) {
-        Ok(()) => Ok(()),
-        Err(_) => Err(Stop::Write),
-    }
-}
-
-/// Writes the text of some zones, which are expanded at once.
-fn write_group<S: Sink>(
-    rt: &(impl Threads + Sync),
-    alloc: Global,
+    waiting: &mut Vec<u8>,
     zones: &[Shared<CompiledZone>],
     from: i64,
     to: i64,
     sink: &mut S,
 ) -> Result<(), Stop>
     requires { IsStretch from to }
-    ensures ok { OnOk result (Appends (S.taken sink.old) (S.taken sink.new) (compiled_texts from to zones.now)) }
-    ensures calm { OnOk result ((S.faults sink.new ≡ S.faults sink.old) × (S.stalls sink.new ≡ S.stalls sink.old)) }
+    ensures ok { OnOk result (IsPut (S.faults sink.old, S.stalls sink.old) (S.faults sink.new, S.stalls sink.new) (S.taken sink.old) (S.taken sink.new) waiting.old.items waiting.new.items (compiled_texts from to zones.now)) }
     ensures stopped { IfErr result (λ stop. (later : List ℕ) →
-        IsStopped stop (S.faults sink.old, S.stalls sink.old) (S.faults sink.new, S.stalls sink.new) (S.taken sink.old) (S.taken sink.new) (compiled_texts from to zones.now ++ later)) }
+        IsStopped stop (S.faults sink.old, S.stalls sink.old) (S.faults sink.new, S.stalls sink.new) (S.taken sink.old) (S.taken sink.new) (waiting.old.items ++ (compiled_texts from to zones.now ++ later))) }
 {
-    let text = match group_text(rt, alloc, zones, from, to) {
-        Ok(text) => text,
-        Err(_) => return Err(Stop::Memory),
-    };
-    match write_text(text.as_slice(), sink) {
-        Ok(()) => Ok(()),
-        Err(stop) => Err(stop),
-    }
+    let dump = dump_zones(rt, alloc, zones, from, to)?;
+    put_zones(waiting, zones, dump.as_slice(), from, to, sink)
 }
 
-/// Writes the text of zones, one group after another.
+/// Writes the text of zones, one group after another, in pieces of at most 65,536 bytes.
 pub fn write_zones<S: Sink>(
     rt: &(impl Threads + Sync),
     alloc: Global,
@@ -145,14 +148,14 @@ pub fn write_zones<S: Sink>(
     ensures stopped { IfErr result (λ stop.
         IsStopped stop (S.faults sink.old, S.stalls sink.old) (S.faults sink.new, S.stalls sink.new) (S.taken sink.old) (S.taken sink.new) (compiled_texts from to zones.now)) }
 {
+    let mut waiting = room_for_a_piece(alloc)?;
     let mut rest = zones;
     while !rest.is_empty() {
         let (group, later) = rest.split_at(rest.len().min(GROUP));
-        match write_group(rt, alloc, group, from, to, sink) {
-            Ok(()) => rest = later,
-            Err(stop) => return Err(stop),
-        }
+        put_group(rt, alloc, &mut waiting, group, from, to, sink)?;
+        rest = later;
     }
+    write_text(waiting.as_slice(), sink)?;
     Ok(())
 }
 

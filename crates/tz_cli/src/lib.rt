@@ -22,6 +22,7 @@ mod local;
 mod moves;
 mod named_zone;
 mod output;
+mod pieces;
 mod printing;
 mod reading;
 mod refusal;

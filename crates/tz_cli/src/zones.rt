@@ -5,7 +5,7 @@ ghost use Rattle.tz_lines.specs.Locate.{located};
 ghost use Rattle.tz_expand.specs.Stretch.{IsStretch};
 ghost use Rattle.tz_cli.specs.Dump.{asked_for, AreAskedFor, IsDumped, IsDump, DumpAnswers};
 ghost use Rattle.tz_cli.specs.Dumping.{compiled_texts};
-ghost use Rattle.tz_cli.specs.Refusal.{Refuses};
+ghost use Rattle.tz_cli.specs.Refusal.{IsRefusal};
 
 use crate::dump::compiled_zones;
 use crate::refusal::Refusal;
@@ -68,7 +68,7 @@ pub fn dump(
     word: &[u8],
 ) -> Result<ZoneDump, Refusal>
     ensures ok { IfOk result (λ dump. IsDump source.now from to (asked_for word.now) (compiled_texts dump.from dump.to dump.zones.items)) }
-    ensures refused { IfErr result (λ refusal. Refuses (DumpAnswers source.now from to (asked_for word.now)) refusal) }
+    ensures refused { IfErr result (λ refusal. IsRefusal (DumpAnswers source.now from to (asked_for word.now)) refusal) }
 {
     let db = match database_of(alloc, source) {
         Ok(db) => db,

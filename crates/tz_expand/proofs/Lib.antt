@@ -8,5 +8,6 @@ pub mod Told
 pub mod Between
 pub mod Lines
 pub mod SameZones
+pub mod Equality
 pub mod ZoneOffsets
 pub mod StretchLemmas

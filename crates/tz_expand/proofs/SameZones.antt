@@ -12,7 +12,7 @@ use Rattle.tz_expand.specs.declared.compiled_line.CompiledRules.{CompiledRules}
 use Rattle.tz_expand.specs.declared.compiled_line.CompiledRules.TheVariants as rules
 use Rattle.tz_expand.specs.declared.compiled_line.CompiledLine.{CompiledLine}
 use Rattle.tz_expand.specs.declared.compiled_zone.CompiledZone.{CompiledZone}
-use Rattle.tz_expand.specs.Followed.{followed_by, is_fixed_save}
+use Rattle.tz_expand.specs.Followed.{followed_by, is_compiled_save}
 use Rattle.tz_expand.specs.Compiled.{period_of, periods, cover_time}
 use Rattle.tz_expand.specs.Zone.{IsCompiled}
 
@@ -27,15 +27,9 @@ same_rules (rules.Set set) rules.Plain h = cc
 same_rules (rules.Set set) (rules.Fixed save daylight) h = cc
 same_rules (rules.Set set) (rules.Set other_set) h = cc
 
-pub same_line : (a b : CompiledLine) → period_of a ≡ period_of b → a ≡ b
-same_line a b h =
-    let start : a.start ≡ b.start = ap (λ (it : Period). it.start) h in
-    let end : a.end ≡ b.end = ap (λ (it : Period). it.finish) h in
-    let stdoff : a.stdoff ≡ b.stdoff = ap (λ (it : Period). it.stdoff) h in
-    let format : a.format ≡ b.format = ap (λ (it : Period). it.format) h in
-    let follows : followed_by a.rules ≡ followed_by b.rules = ap (λ (it : Period). it.following) h in
-    let rules : a.rules ≡ b.rules = same_rules a.rules b.rules follows in
-    let letters : a.letters ≡ b.letters = a.letters_are ∙ ap letters_before follows ∙ sym b.letters_are in
+-- fields that are equal make equal lines: what else a line has are facts
+pub line_from_fields : (a b : CompiledLine) → a.start ≡ b.start → a.end ≡ b.end → a.stdoff ≡ b.stdoff → a.format ≡ b.format → a.rules ≡ b.rules → a.letters ≡ b.letters → a ≡ b
+line_from_fields a b start end stdoff format rules letters =
     λ i. record {
       start = start i;
       end = end i;
@@ -45,9 +39,20 @@ same_line a b h =
       letters = letters i;
       stdoff_in = is_prop→PathP (λ j. IsShift (stdoff j)) (λ j. hlevel props) a.stdoff_in b.stdoff_in i;
       format_in = is_prop→PathP (λ j. IsTrue (is_format (format j))) (λ j. hlevel props) a.format_in b.format_in i;
-      save_in = is_prop→PathP (λ j. IsTrue (is_fixed_save (rules j))) (λ j. hlevel props) a.save_in b.save_in i;
+      save_in = is_prop→PathP (λ j. IsTrue (is_compiled_save (rules j))) (λ j. hlevel props) a.save_in b.save_in i;
       letters_are = is_prop→PathP (λ j. letters j ≡ letters_before (followed_by (rules j))) (λ j. hlevel props) a.letters_are b.letters_are i;
     }
+
+pub same_line : (a b : CompiledLine) → period_of a ≡ period_of b → a ≡ b
+same_line a b h =
+    let follows : followed_by a.rules ≡ followed_by b.rules = ap (λ (it : Period). it.following) h in
+    line_from_fields a b
+    (ap (λ (it : Period). it.start) h)
+    (ap (λ (it : Period). it.finish) h)
+    (ap (λ (it : Period). it.stdoff) h)
+    (ap (λ (it : Period). it.format) h)
+    (same_rules a.rules b.rules follows)
+    (a.letters_are ∙ ap letters_before follows ∙ sym b.letters_are)
 
 pub same_lines : (ones others : List CompiledLine) → periods ones ≡ periods others → ones ≡ others
 same_lines [] [] h = refl

@@ -21,7 +21,7 @@ use Rattle.tz_expand.specs.declared.compiled_line.CompiledLine.{CompiledLine}
 use Rattle.tz_expand.specs.declared.compiled_line.CompiledRules.{CompiledRules}
 use Rattle.tz_expand.specs.declared.compiled_line.CompiledRules.TheVariants as rules
 use Rattle.tz_expand.specs.declared.compiled_zone.CompiledZone.{CompiledZone}
-use Rattle.tz_expand.specs.Followed.{followed_by, is_fixed_save}
+use Rattle.tz_expand.specs.Followed.{followed_by, is_compiled_save}
 use Rattle.tz_expand.specs.Compiled.{period_of, periods}
 use Rattle.tz_expand.specs.Zone.{expansion_of}
 
@@ -57,7 +57,7 @@ abs_small : (save : ℤ) → unsigned_abs save ≤ 86_400 → IsShift save
 abs_small (pos n) h = (omega (arith, ints), omega (arith, ints))
 abs_small (negsuc n) h = (omega (arith, ints), omega (arith, ints))
 
-rules_small : (followed : CompiledRules) → IsTrue (is_fixed_save followed) → HasSmallSave (followed_by followed)
+rules_small : (followed : CompiledRules) → IsTrue (is_compiled_save followed) → HasSmallSave (followed_by followed)
 rules_small rules.Plain small = tt
 rules_small (rules.Fixed save daylight) small = abs_small save (leb-true (unsigned_abs save) 86_400 small)
 rules_small (rules.Set set) small = tt

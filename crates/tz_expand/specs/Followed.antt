@@ -10,7 +10,7 @@ followed_by (rules.Fixed save daylight) = Fixed save daylight
 followed_by (rules.Set set) = Rules set
 
 -- a fixed save is at most a day, with either sign
-abbrev pub is_fixed_save : CompiledRules → Bool
-is_fixed_save rules.Plain = true
-is_fixed_save (rules.Fixed save daylight) = nat_le (unsigned_abs save) 86_400
-is_fixed_save (rules.Set set) = true
+abbrev pub is_compiled_save : CompiledRules → Bool
+is_compiled_save rules.Plain = true
+is_compiled_save (rules.Fixed save daylight) = nat_le (unsigned_abs save) 86_400
+is_compiled_save (rules.Set set) = true

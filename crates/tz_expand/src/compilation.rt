@@ -1,14 +1,14 @@
 //! Zones of a database made ready for questions.
 ghost use Rattle.std.specs.Prelude.{◌≡◌, ◌<◌, List, ◌∷◌, ◌++◌, length, IsTrue, IfOk, OnOk, slice_get};
 ghost use Rattle.std.specs.List.{list_all};
-ghost use Rattle.tz_types.specs.Saves.{is_fixed_save as fixes_save};
+ghost use Rattle.tz_types.specs.Saves.{is_compiled_save as fixes_save};
 ghost use Rattle.tz_types.specs.declared.zone.Zone.{Zone};
 ghost use Rattle.tz_types.specs.declared.rule_set.RuleSet.{RuleSet};
 ghost use Rattle.tz_types.specs.declared.zone_line.ZoneLine.{ZoneLine};
 ghost use Rattle.tz_specs.specs.Before.{letters_before};
 ghost use Rattle.tz_specs.specs.Expansion.{first_instant, finish_of, following_of, period_from, periods_from};
 ghost use Rattle.tz_specs.specs.Sound.{is_known, is_sound};
-ghost use Rattle.tz_expand.specs.Followed.{followed_by, is_fixed_save};
+ghost use Rattle.tz_expand.specs.Followed.{followed_by, is_compiled_save};
 ghost use Rattle.tz_expand.specs.Compiled.{period_of, periods};
 ghost use Rattle.tz_expand.specs.Zone.{IsCompiled, are_known};
 
@@ -46,7 +46,7 @@ fn rules_of(sets: &[Shared<RuleSet>], rules: LineRules) -> Result<CompiledRules,
     requires known { IsTrue (is_known sets.now rules) }
     requires save_in { IsTrue (fixes_save rules) }
     ensures follows { IfOk result (λ compiled. followed_by compiled ≡ following_of sets.now rules) }
-    ensures save_in { IfOk result (λ compiled. IsTrue (is_fixed_save compiled)) }
+    ensures save_in { IfOk result (λ compiled. IsTrue (is_compiled_save compiled)) }
 {
     match rules {
         LineRules::Plain => Ok(CompiledRules::Plain),
@@ -68,7 +68,7 @@ fn letters_of(rules: &CompiledRules) -> Letters
 /// When a line ends that follows these rules.
 #[tactic(auto, unfolding(tz_specs::specs::Until::until_instant))]
 fn finish(line: &ZoneLine, rules: &CompiledRules) -> i64
-    requires { IsTrue (is_fixed_save rules.now) }
+    requires { IsTrue (is_compiled_save rules.now) }
     ensures { (sets : List RuleSet) → followed_by rules.now ≡ following_of sets line.now.rules → result ≡ finish_of sets line.now }
 {
     let until = match &line.until {

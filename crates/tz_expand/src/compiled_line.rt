@@ -3,7 +3,7 @@ ghost use Rattle.std.specs.Prelude.{◌≡◌, IsTrue};
 ghost use Rattle.tz_types.specs.Amount.{IsShift};
 ghost use Rattle.tz_types.specs.Format.{is_format};
 ghost use Rattle.tz_specs.specs.Before.{letters_before};
-ghost use Rattle.tz_expand.specs.Followed.{is_fixed_save, followed_by};
+ghost use Rattle.tz_expand.specs.Followed.{is_compiled_save, followed_by};
 
 use tz_types::{Format, Letters, RuleSet, Shared};
 
@@ -27,6 +27,6 @@ pub struct CompiledLine {
     pub letters: Letters,
     pub ghost stdoff_in: { IsShift stdoff },
     pub ghost format_in: { IsTrue (is_format format) },
-    pub ghost save_in: { IsTrue (is_fixed_save rules) },
+    pub ghost save_in: { IsTrue (is_compiled_save rules) },
     pub ghost letters_are: { letters ≡ letters_before (followed_by rules) },
 }

@@ -8,7 +8,7 @@ use Rattle.tz_io.specs.Sink.{Appends}
 use Rattle.tz_batch.specs.OutcomeText.{outcome_text}
 use Rattle.tz_cli.specs.BatchCommand.{BatchCommand}
 use Rattle.tz_cli.specs.Outcome.{FileContents, Failed}
-use Rattle.tz_cli.specs.Refusal.{Refuses, Gives, refusal_status, refusal_line}
+use Rattle.tz_cli.specs.Refusal.{IsRefusal, Gives, refusal_status, refusal_line}
 use Rattle.tz_cli.specs.declared.status.Status.{Status}
 use Rattle.tz_cli.specs.declared.status.Status.TheVariants as statuses
 use Rattle.tz_cli.specs.declared.refusal.Refusal.{Refusal}
@@ -37,14 +37,14 @@ gives_due batch told failed text sources (Err refusals.Memory) read given = tt
 gives_due batch told failed text sources (Err refusal) read given = answer_due batch told failed text sources (refusal_status refusal) (refusal_line refusal) read given
 
 -- a refusal of the files is due
-pub files_due : (batch : BatchCommand) (told : Option FileContents) (failed : List ℕ → Type 0) (refusal : Refusal) → RefusesGroups told (file_groups batch) failed refusal → Refuses (IsBatchDue batch told failed) refusal
+pub files_due : (batch : BatchCommand) (told : Option FileContents) (failed : List ℕ → Type 0) (refusal : Refusal) → RefusesGroups told (file_groups batch) failed refusal → IsRefusal (IsBatchDue batch told failed) refusal
 files_due batch told failed refusals.Memory refused = tt
 files_due batch told failed refusals.Read refused = (refused, refl)
 files_due batch told failed refusals.TooLarge refused = (refused, refl)
 files_due batch told failed refusal refused = absurd refused
 
 -- the line of a refusal is due at its status
-pub refusal_due : (batch : BatchCommand) (told : Option FileContents) (failed : List ℕ → Type 0) (refusal : Refusal) → Refuses (IsBatchDue batch told failed) refusal → IsBatchDue batch told failed (refusal_status refusal) (refusal_line refusal)
+pub refusal_due : (batch : BatchCommand) (told : Option FileContents) (failed : List ℕ → Type 0) (refusal : Refusal) → IsRefusal (IsBatchDue batch told failed) refusal → IsBatchDue batch told failed (refusal_status refusal) (refusal_line refusal)
 refusal_due batch told failed refusals.Memory refused = refl
 refusal_due batch told failed refusal refused = refused
 

@@ -5,14 +5,14 @@ use Rattle.tz_script.specs.Script.{ReadsScript}
 use Rattle.tz_script.specs.declared.script.Script.{Script}
 use Rattle.tz_version.specs.declared.sources.Sources.{Sources}
 use Rattle.tz_cli.specs.Line.{fault_line}
-use Rattle.tz_cli.specs.Refusal.{Refuses}
+use Rattle.tz_cli.specs.Refusal.{IsRefusal}
 use Rattle.tz_cli.specs.declared.refusal.Refusal.{Refusal}
 use Rattle.tz_cli.specs.declared.refusal.Refusal.TheVariants as refusals
 use Rattle.tz_top.specs.BatchAnswer.{BatchAnswers}
 use Rattle.tz_top.specs.Refusal.{RefusesToOpen}
 
 -- where a version of the first source isn't made, that is an answer
-pub opening_refused : (slots : ℕ) (text : List ℕ) (sources : Sources) (script : Script) (refusal : Refusal) → ReadsScript (length sources.texts) text script → RefusesToOpen sources refusal → Refuses (BatchAnswers slots text sources) refusal
+pub opening_refused : (slots : ℕ) (text : List ℕ) (sources : Sources) (script : Script) (refusal : Refusal) → ReadsScript (length sources.texts) text script → RefusesToOpen sources refusal → IsRefusal (BatchAnswers slots text sources) refusal
 opening_refused slots text sources script refusals.Memory reads refused = tt
 opening_refused slots text sources script (refusals.Leaps fault) reads refused =
     let alone : fault ≡ record { file = 0; line = fault.line; cause = fault.cause } = λ i. record { file = refused.0 i; line = fault.line; cause = fault.cause } in

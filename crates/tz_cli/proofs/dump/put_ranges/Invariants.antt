@@ -1,7 +1,9 @@
-use Rattle.std.proofs.Common.{◌≡◌, ◌++◌, take}
+use Rattle.std.proofs.Common.{ℕ, take}
 use Rattle.std.specs.List.{flat_map}
 use Rattle.tz_cli.specs.Line.{range_line}
+use Rattle.tz_cli.specs.Dumping.{IsPut}
 use Rattle.tz_cli.proofs.dump.put_ranges.Given as goal
 
 abbrev pub invariant-loop-range : goal.invariant-loop-range
-invariant-loop-range l = l.out.items ≡ l.initial.out.items ++ flat_map range_line (take l.range-index l.ranges)
+invariant-loop-range g l =
+    IsPut (g.S.Sink.faults l.initial.sink, g.S.Sink.stalls l.initial.sink) (g.S.Sink.faults l.sink, g.S.Sink.stalls l.sink) (g.S.Sink.taken l.initial.sink) (g.S.Sink.taken l.sink) l.initial.waiting.items l.waiting.items (flat_map range_line (take l.range-index l.ranges))

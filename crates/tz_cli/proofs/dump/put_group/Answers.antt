@@ -3,10 +3,10 @@ use Rattle.std.specs.Int.{w64}
 use Rattle.std.proofs.lemmas.Int.{to_z-of_z}
 use Rattle.tz_expand.specs.Stretch.{ranges_between}
 use Rattle.tz_cli.proofs.Dumps.{zip_long}
-use Rattle.tz_cli.proofs.dump.group_text.Goals as goal
+use Rattle.tz_cli.proofs.dump.put_group.Goals as goal
 
-pub text_of-requires-clause-counted : goal.text_of-requires-clause-counted
-text_of-requires-clause-counted g c =
+pub put_zones-requires-clause-counted : goal.put_zones-requires-clause-counted
+put_zones-requires-clause-counted g c =
     let from_fits : FitsSigned w64 c.args.from = c.ranges.from in
     let to_fits : FitsSigned w64 c.args.to = c.ranges.to in
     let all = simp to_z-of_z at c.in_ok-dump.ensures in
