@@ -1,7 +1,7 @@
 //! Zones of a database made ready for questions.
 ghost use Rattle.std.specs.Prelude.{◌≡◌, ◌<◌, List, ◌∷◌, ◌++◌, length, IsTrue, IfOk, OnOk, slice_get};
 ghost use Rattle.std.specs.List.{list_all};
-ghost use Rattle.tz_types.specs.Saves.{is_compiled_save as fixes_save};
+ghost use Rattle.tz_types.specs.Saves.{is_fixed_save};
 ghost use Rattle.tz_types.specs.declared.zone.Zone.{Zone};
 ghost use Rattle.tz_types.specs.declared.rule_set.RuleSet.{RuleSet};
 ghost use Rattle.tz_types.specs.declared.zone_line.ZoneLine.{ZoneLine};
@@ -44,7 +44,7 @@ fn format_copied(format: &Format) -> Format
 /// What a line follows, with its rule set shared and not copied.
 fn rules_of(sets: &[Shared<RuleSet>], rules: LineRules) -> Result<CompiledRules, NoMemory>
     requires known { IsTrue (is_known sets.now rules) }
-    requires save_in { IsTrue (fixes_save rules) }
+    requires save_in { IsTrue (is_fixed_save rules) }
     ensures follows { IfOk result (λ compiled. followed_by compiled ≡ following_of sets.now rules) }
     ensures save_in { IfOk result (λ compiled. IsTrue (is_compiled_save compiled)) }
 {
