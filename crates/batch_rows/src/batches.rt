@@ -1,5 +1,6 @@
 //! Batches: scripts over texts, with the journal and the replies that are printed.
 use crate::outside::{answers, named_files};
+use crate::scripts::S1_PRINTED;
 use std::test::Fail;
 use tz_cli::Status;
 
@@ -55,11 +56,7 @@ end
 
 /// What a script gives, by the words of its command.
 const ROWS: [(&str, Status, &str); 24] = [
-    (
-        "batch S1 4 - A B",
-        Status::Ok,
-        "journal 1\n1 1 1 push 2 1 1\nreplies 2\n3 @1 pushed 2 1\n4 @1 same 2\nend\n",
-    ),
+    ("batch S1 4 - A B", Status::Ok, S1_PRINTED),
     (
         "batch S2 2 - A B",
         Status::Ok,

@@ -1,11 +1,8 @@
 //! Batches of which a file can't be read.
 use crate::outside::{files_with_a_fault, run};
+use crate::scripts::S1_PRINTED;
 use std::test::Fail;
 use tz_cli::Status;
-
-/// What two reloads print of which the second finds its name at the front.
-const S1_PRINTED: &str =
-    "journal 1\n1 1 1 push 2 1 1\nreplies 2\n3 @1 pushed 2 1\n4 @1 same 2\nend\n";
 
 /// Batches, each with the number of the read that fails.
 const ROWS: [(&str, u32, Status, &str); 18] = [

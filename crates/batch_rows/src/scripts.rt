@@ -3,6 +3,10 @@
 /// A reload, and one that finds its name at the front.
 const S1: &str = "lanes 1\nround\n1 reload 1\n1 reload 1\n";
 
+/// What that prints over two texts of two names.
+pub const S1_PRINTED: &str =
+    "journal 1\n1 1 1 push 2 1 1\nreplies 2\n3 @1 pushed 2 1\n4 @1 same 2\nend\n";
+
 /// A list of two slots, full under a hold.
 const S2: &str =
     "lanes 1\nround\n1 hold a\n1 reload 1\n1 erase front\n1 reload 0\n1 drop a\n1 reload 0\n";

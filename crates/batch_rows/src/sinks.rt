@@ -1,13 +1,12 @@
 //! Sinks that take a part of what a batch prints, or fail.
 use crate::outside::{named_files, run, run_into};
+use crate::scripts::S1_PRINTED;
 use std::test::Fail;
 use tz_cli::Status;
 use tz_io::MemorySink;
 
-/// A batch, and all that it prints.
+/// A batch that prints `S1_PRINTED`.
 const BATCH: &str = "batch S1 4 - A B";
-
-const PRINTED: &str = "journal 1\n1 1 1 push 2 1 1\nreplies 2\n3 @1 pushed 2 1\n4 @1 same 2\nend\n";
 
 /// What a sink takes that has room for few bytes: of an outcome, and of the line of each refusal.
 const PARTS: [(&str, usize, &str); 14] = [
@@ -52,9 +51,9 @@ fn a_part_of_a_batch_is_taken(rt: HostRuntime) -> Result<(), Fail> {
 fn a_batch_is_taken_in_pieces(rt: HostRuntime) -> Result<(), Fail> {
     let mut files = named_files(rt.alloc())?;
     for piece in [1, 3, 4, 6, 10, 64] {
-        let (answer, taken) = run(&rt, rt.alloc(), &mut files, BATCH, piece, PRINTED.len())?;
+        let (answer, taken) = run(&rt, rt.alloc(), &mut files, BATCH, piece, S1_PRINTED.len())?;
         assert_eq!(rt; answer, Status::Ok, "{piece}");
-        assert_eq!(rt; taken.as_slice(), PRINTED.as_bytes(), "{piece}");
+        assert_eq!(rt; taken.as_slice(), S1_PRINTED.as_bytes(), "{piece}");
     }
     // A sink that takes nothing of a piece.
     let (answer, taken) = run(&rt, rt.alloc(), &mut files, BATCH, 0, 4_096)?;
@@ -93,6 +92,6 @@ fn a_write_fails_in_a_batch(rt: HostRuntime) -> Result<(), Fail> {
     let mut sink = MemorySink::new(rt.alloc(), 10, 4_096, failing)?;
     let answer = run_into(&rt, rt.alloc(), &mut files, BATCH, &mut sink)?;
     assert_eq!(rt; answer, Status::Ok);
-    assert_eq!(rt; sink.taken(), PRINTED.as_bytes());
+    assert_eq!(rt; sink.taken(), S1_PRINTED.as_bytes());
     Ok(())
 }
