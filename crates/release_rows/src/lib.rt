@@ -4,6 +4,8 @@
 #[cfg(test)]
 mod dumps;
 #[cfg(test)]
+mod folder;
+#[cfg(test)]
 mod outside;
 #[cfg(test)]
 mod texts;

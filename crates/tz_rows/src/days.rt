@@ -1,6 +1,6 @@
 //! How long days of zones are.
-use crate::outside::run;
-use crate::rows::{answers, named_files};
+use crate::outside::{named_files, run};
+use crate::rows::answers;
 use std::test::Fail;
 use tz_cli::{Plain, Status};
 

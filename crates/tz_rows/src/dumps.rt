@@ -1,6 +1,5 @@
 //! Dumps: the ranges of one zone or of all zones that meet a stretch of time.
-use crate::outside::{one_file, run, run_into};
-use crate::rows::named_files;
+use crate::outside::{named_files, one_file, run, run_into};
 use std::alloc::{AllocError, Global};
 use std::str;
 use std::test::Fail;
@@ -389,6 +388,40 @@ fn a_write_fails_in_a_dump(rt: HostRuntime) -> Result<(), Fail> {
         assert!(rt; sink.taken().len() < whole.len(), "{failing}");
         assert!(rt; failing == 1 || sink.taken().len() > last, "{failing}");
         last = sink.taken().len();
+    }
+    Ok(())
+}
+
+/// Dumps, and lines that refuse one, each with all that is printed.
+const BY_BYTES: [(&str, &str); 5] = [
+    ("dump several 0 1 -", SEVERAL),
+    ("dump A 1704067200 1735689600 -", YEAR_2024),
+    ("dump A 1704067200 1735689600 US/Eastern", YEAR_2024),
+    ("dump A 0 0 -", "range\n"),
+    ("dump A 0 1 Nowhere", "nozone\n"),
+];
+
+/// A sink that takes one byte a write, and of which one write fails, has just the bytes before that.
+#[test]
+fn a_write_of_a_byte_fails_in_a_dump(rt: HostRuntime) -> Result<(), Fail> {
+    let alloc = rt.alloc();
+    let mut files = named_files(alloc)?;
+    for (line, whole) in BY_BYTES {
+        for place in 0..250u32 {
+            let Some(before) = whole.as_bytes().get(..place as usize) else {
+                break;
+            };
+            let mut failing = Vec::new(alloc);
+            failing.push(place + 1)?;
+            let mut sink = MemorySink::new(alloc, 1, 4_096, failing)?;
+            let answer = run_into(&rt, alloc, &mut files, line, &mut sink)?;
+            assert_eq!(rt; sink.taken(), before, "{line}, byte {place}");
+            let is_whole = before.len() == whole.len();
+            assert!(rt;
+                is_whole || answer == Plain::Done(Status::Write),
+                "{line}, byte {place}"
+            );
+        }
     }
     Ok(())
 }

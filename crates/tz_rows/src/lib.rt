@@ -1,14 +1,12 @@
-//! Tests that cross crates: worked rows of commands, over files and a sink in memory.
+//! Tests that cross crates: worked rows of all commands but `batch`, over files and a sink in memory.
 #![tactic(auto)]
 
-#[cfg(test)]
-mod batches;
 #[cfg(test)]
 mod days;
 #[cfg(test)]
 mod dumps;
 #[cfg(test)]
-mod generated;
+mod leap_texts;
 #[cfg(test)]
 mod links;
 #[cfg(test)]
@@ -25,8 +23,6 @@ mod rows;
 mod sizes;
 #[cfg(test)]
 mod sources;
-#[cfg(test)]
-mod texts;
 #[cfg(test)]
 mod tzif;
 #[cfg(test)]

@@ -1,6 +1,7 @@
 //! What counts over all files of a source: how many lines, rules, sets, zones and links there are, and which rule comes first.
-use crate::outside::{files_of, run};
+use crate::outside::run;
 use crate::sizes::{first, numbered};
+use row_files::files_of;
 use std::alloc::{AllocError, Global};
 use std::process::Abort;
 use std::test::Fail;
@@ -134,6 +135,32 @@ fn rules_of_later_files_come_later(rt: HostRuntime) -> Result<(), Fail> {
     ];
     for (line, printed) in cases {
         prints(&rt, rt.alloc(), (one, two), line, printed)?;
+    }
+    Ok(())
+}
+
+/// A link leads to one of a later file, and names are those of all files.
+#[test]
+fn links_lead_to_other_files(rt: HostRuntime) -> Result<(), Fail> {
+    let to_a_link = b"Link B C\n".as_slice();
+    let to_a_zone = b"Zone Z 0 - z\nLink Z B\n".as_slice();
+    let zone = b"Zone A 0 - X\n".as_slice();
+    let named_so = b"Link B A\nZone B 0 - Y\n".as_slice();
+    let circle = (b"Link A B\n".as_slice(), b"Link B A\n".as_slice());
+    let range = "-377705116800 253402300800 0 0 z\n";
+    let cases = [
+        ((to_a_link, to_a_zone), "info S,T C 0", range),
+        ((to_a_link, to_a_zone), "info T,S C 0", range),
+        ((to_a_link, zone), "check S,T", "text 1 22 in 1\n"),
+        ((to_a_link, zone), "check T,S", "text 1 22 in 2\n"),
+        // A link has the name of a zone of another file.
+        ((zone, named_so), "check S,T", "text 1 21 in 2\n"),
+        ((zone, named_so), "check T,S", "text 1 21 in 2\n"),
+        // Two links lead to one another.
+        (circle, "check S,T", "text 1 22 in 1\n"),
+    ];
+    for (files, line, printed) in cases {
+        prints(&rt, rt.alloc(), files, line, printed)?;
     }
     Ok(())
 }

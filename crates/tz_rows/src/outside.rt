@@ -1,19 +1,13 @@
 //! Commands over files and a sink in memory.
+use row_files::{files_of, named_texts, words_of};
 use std::alloc::{AllocError, Global};
-use std::sync::Wait;
 use std::thread::Threads;
-use tz_cli::{Plain, Status, run_plain};
+use tz_cli::{Plain, run_plain};
 use tz_io::{MemoryFiles, MemorySink};
-use tz_run::OpenGate;
-use tz_top::run as run_any;
-use tz_types::NoMemory;
 
-/// Files of these names and contents.
-pub fn files_of(alloc: Global, list: Vec<(String, Vec<u8>)>) -> Result<MemoryFiles, AllocError> {
-    match MemoryFiles::new(alloc, list, Vec::new(alloc)) {
-        Ok(files) => Ok(files),
-        Err(NoMemory) => Err(AllocError),
-    }
+/// The texts, each in the file of its name.
+pub fn named_files(alloc: Global) -> Result<MemoryFiles, AllocError> {
+    files_of(alloc, named_texts(alloc)?)
 }
 
 /// The one file `T`, of that content.
@@ -21,15 +15,6 @@ pub fn one_file(alloc: Global, text: Vec<u8>) -> Result<MemoryFiles, AllocError>
     let mut list = Vec::new(alloc);
     list.push((format!(in alloc; "T")?, text))?;
     files_of(alloc, list)
-}
-
-/// The words of a command line.
-fn words_of(alloc: Global, line: &str) -> Result<Vec<String>, AllocError> {
-    let mut words = Vec::new(alloc);
-    for word in line.split_whitespace() {
-        words.push(format!(in alloc; "{word}")?)?;
-    }
-    Ok(words)
 }
 
 /// What a command answers over the files, where it writes into that sink.
@@ -70,19 +55,4 @@ pub fn answer_over(
 ) -> Result<(Plain, Vec<u8>), AllocError> {
     let mut files = one_file(alloc, text)?;
     run(rt, alloc, &mut files, line, 4_096, 4_096)
-}
-
-/// What any command answers over the files, `batch` too, and what it writes.
-pub fn run_batch(
-    rt: &(impl Threads + Wait + Sync),
-    alloc: Global,
-    files: &mut MemoryFiles,
-    line: &str,
-) -> Result<(Status, Vec<u8>), AllocError> {
-    let Ok(mut sink) = MemorySink::new(alloc, 64, 65_536, Vec::new(alloc)) else {
-        return Err(AllocError);
-    };
-    let words = words_of(alloc, line)?;
-    let status = run_any(rt, alloc, words.as_slice(), files, &mut sink, &OpenGate);
-    Ok((status, sink.taken().to_vec(alloc)?))
 }

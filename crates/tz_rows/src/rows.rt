@@ -1,12 +1,10 @@
 //! Worked rows: the words of a command, its status, and what it prints.
-use crate::outside::{files_of, run};
-use crate::texts::TEXTS;
+use crate::outside::{named_files, run};
 use std::alloc::{AllocError, Global};
 use std::process::Abort;
 use std::test::Fail;
 use std::thread::Threads;
 use tz_cli::{Plain, Status};
-use tz_io::MemoryFiles;
 
 const INFO: [(&str, Status, &str); 32] = [
     (
@@ -441,16 +439,6 @@ const PARTS: [(&str, usize, &str); 10] = [
     ("dump A 0 1 Nowhere", 6, "nozone"),
     ("dump W 0 1 -", 0, ""),
 ];
-
-/// The texts, each in the file of its name.
-pub fn named_files(alloc: Global) -> Result<MemoryFiles, AllocError> {
-    let mut list = Vec::new(alloc);
-    for (name, text) in TEXTS {
-        let name = format!(in alloc; "{name}")?;
-        list.push((name, text.as_bytes().to_vec(alloc)?))?;
-    }
-    files_of(alloc, list)
-}
 
 /// Whether each command prints its line and ends with its status, in pieces of one byte and of many.
 pub fn answers(

@@ -1,19 +1,11 @@
 //! Texts that are too large, or have too long a line, too many lines or too many records.
 use crate::outside::answer_over;
+use row_files::blank_lines;
 use std::alloc::{AllocError, Global};
 use std::process::Abort;
 use std::test::Fail;
 use std::thread::Threads;
 use tz_cli::{Plain, Status};
-
-/// Blank lines of 64 bytes, cut off after `length` bytes.
-pub fn blank_lines(alloc: Global, length: usize) -> Result<Vec<u8>, AllocError> {
-    let mut text = vec![in alloc; b' '; length]?;
-    for end in text.iter_mut().skip(63).step_by(64) {
-        *end = b'\n';
-    }
-    Ok(text)
-}
 
 /// A comment of that many bytes with its newline.
 fn comment(alloc: Global, length: usize) -> Result<Vec<u8>, AllocError> {
@@ -164,6 +156,13 @@ fn lines_have_limits(rt: HostRuntime) -> Result<(), Fail> {
         (with_letters(alloc, "#", 2_046, "\n")?, none),
         (with_letters(alloc, "#", 2_047, "\n")?, "text 1 1\n"),
         (with_letters(alloc, "#", 2_047, "")?, "text 1 1\n"),
+        // A line that is too long, has a NUL byte and an open quote, or two of these: the least cause.
+        (with_letters(alloc, "#\0", 2_045, "\n")?, "text 1 2\n"),
+        (with_letters(alloc, "#\0", 2_046, "\n")?, "text 1 1\n"),
+        (with_letters(alloc, "\"", 2_046, "\n")?, "text 1 3\n"),
+        (with_letters(alloc, "\"", 2_047, "\n")?, "text 1 1\n"),
+        (with_letters(alloc, "\"\0", 2_045, "\n")?, "text 1 2\n"),
+        (with_letters(alloc, "\"\0", 2_046, "\n")?, "text 1 1\n"),
         (with_letters(alloc, "Zone ", 255, " 0 - X\n")?, one),
         (
             with_letters(alloc, "Zone ", 256, " 0 - X\n")?,
@@ -177,12 +176,41 @@ fn lines_have_limits(rt: HostRuntime) -> Result<(), Fail> {
             with_letters(alloc, "Zone A 0 ", 256, " X\n")?,
             "text 1 18\n",
         ),
+        (
+            with_letters(alloc, "Rule ", 255, " 1 max - Mar 1 0 0 -\n")?,
+            "ok unknown rules 1 zones 0 links 0\n",
+        ),
+        (
+            with_letters(alloc, "Rule ", 256, " 1 max - Mar 1 0 0 -\n")?,
+            "text 1 18\n",
+        ),
+        (with_letters(alloc, "Link ", 255, " B\n")?, "text 1 22\n"),
+        (with_letters(alloc, "Link ", 256, " B\n")?, "text 1 18\n"),
+        (with_letters(alloc, "Link A ", 255, "\n")?, "text 1 22\n"),
+        (with_letters(alloc, "Link A ", 256, "\n")?, "text 1 18\n"),
+        // A name that is too long, and begins with a digit or has a space.
+        (
+            with_letters(alloc, "Rule 2", 255, " 1 max - Mar 1 0 0 -\n")?,
+            "text 1 13\n",
+        ),
+        (
+            with_letters(alloc, "Zone \"A ", 254, "\" 0 - X\n")?,
+            "text 1 13\n",
+        ),
+        (
+            with_letters(alloc, "Link \"A ", 254, "\" B\n")?,
+            "text 1 13\n",
+        ),
         (with_letters(alloc, "Zone A 0 - ", 24, "\n")?, one),
         (with_letters(alloc, "Zone A 0 - ", 25, "\n")?, "text 1 15\n"),
         (vec![in alloc; b'\n'; 100_000]?, none),
         (vec![in alloc; b'\n'; 100_001]?, "text 100001 18\n"),
         (last(vec![in alloc; b'\n'; 99_999]?, "Zone A 0 - X")?, one),
         // Where a line is one too many and has a lesser cause, that is told.
+        (
+            last(vec![in alloc; b'\n'; 100_000]?, "Zone \"\" 0 - X")?,
+            "text 100001 13\n",
+        ),
         (
             last(vec![in alloc; b'\n'; 100_000]?, "Foo")?,
             "text 100001 4\n",

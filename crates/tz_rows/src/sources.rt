@@ -1,7 +1,7 @@
 //! Sources of several files, and of a version that is given: the words that name them, and what is answered over them.
-use crate::outside::{files_of, run};
+use crate::outside::run;
 use crate::rows::answers;
-use crate::sizes::blank_lines;
+use row_files::{blank_lines, files_of};
 use std::alloc::{AllocError, Global};
 use std::test::Fail;
 use std::thread::Threads;

@@ -1,6 +1,6 @@
 //! Zones as files of RFC 8536 over civil years.
-use crate::outside::{answer_over, run};
-use crate::rows::{answers, named_files};
+use crate::outside::{answer_over, named_files, run};
+use crate::rows::answers;
 use std::alloc::{AllocError, Global};
 use std::test::Fail;
 use tz_cli::{Plain, Status};

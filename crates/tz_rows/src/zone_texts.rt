@@ -7,7 +7,7 @@ use std::thread::Threads;
 use tz_cli::{Plain, Status};
 
 /// A text for each cause of one line.
-const BY_LINE: [(&str, &str); 44] = [
+const BY_LINE: [(&str, &str); 53] = [
     ("#\0\n", "text 1 2\n"),
     ("Zone \"A 0 - X\n", "text 1 3\n"),
     ("Foo A B\n", "text 1 4\n"),
@@ -56,6 +56,20 @@ const BY_LINE: [(&str, &str); 44] = [
         "Rule US 2000 only - Mar 1 2:00 0 ABCDEFGHI\n",
         "text 1 15\n",
     ),
+    // The most that an offset or a save may be is 86,400 seconds, either way.
+    ("Zone A -24:00:01 - X\n", "text 1 11\n"),
+    ("Zone A 24:00:00.6 - X\n", "text 1 11\n"),
+    ("Zone A 0 - X 2000\n24:00:01 - Y\n", "text 2 11\n"),
+    ("Rule US 2000 only - Mar 1 2:00 24:00:01 S\n", "text 1 12\n"),
+    (
+        "Rule US 2000 only - Mar 1 2:00 -24:00:01 S\n",
+        "text 1 12\n",
+    ),
+    ("Zone A 0 24:00:01 X\n", "text 1 12\n"),
+    ("Zone A 0 -24:00:01d X\n", "text 1 12\n"),
+    // Hours have at most three digits, where no other limit is.
+    ("Rule US 2000 only - Mar 1 1000:00 0 S\n", "text 1 11\n"),
+    ("Zone A 0 - X 2000 Jan 1 -1000:00\n0 - Y\n", "text 1 11\n"),
 ];
 
 /// A text for each cause of whole texts but for links, which have texts of their own.
@@ -160,7 +174,7 @@ const ORDER: [(&str, &str); 32] = [
 ];
 
 /// Texts that are accepted.
-const ACCEPTED: [(&str, &str); 28] = [
+const ACCEPTED: [(&str, &str); 34] = [
     ("", "ok unknown rules 0 zones 0 links 0\n"),
     ("# version 2024a\n", "ok 2024a rules 0 zones 0 links 0\n"),
     ("# version 2024a \t\r", "ok 2024a rules 0 zones 0 links 0\n"),
@@ -251,6 +265,32 @@ const ACCEPTED: [(&str, &str); 28] = [
     (
         "Zone A -24 - ABCDEFGHIJKLMNOPQRSTUVWX -9998\n24 - X\n",
         "ok unknown rules 0 zones 1 links 0\n",
+    ),
+    // Years and amounts at their ends.
+    (
+        "Zone A 0 - X 9998\n0 - Y\n",
+        "ok unknown rules 0 zones 1 links 0\n",
+    ),
+    (
+        "Zone A 24:00:00 - X 2000\n-24:00:00 - X 2001\n23:59:60 - X 2002\n24:00:00.5 - X\n",
+        "ok unknown rules 0 zones 1 links 0\n",
+    ),
+    (
+        "Rule US 2000 only - Mar 1 24:00:01 24:00:00 S\nRule US 2000 only - Apr 1 -999:59:60 -24:00:00 S\n",
+        "ok unknown rules 2 zones 0 links 0\n",
+    ),
+    (
+        "Zone A 0 24:00:00 X 2000 Jan 1 24:00:01\n0 -24:00:00s X\n",
+        "ok unknown rules 0 zones 1 links 0\n",
+    ),
+    // A version has at most 64 bytes; a longer one is a comment.
+    (
+        "# version vvvvvvvvvvvvvvvvvvvvvvvvvvvvvvvvvvvvvvvvvvvvvvvvvvvvvvvvvvvvvvvv\n",
+        "ok vvvvvvvvvvvvvvvvvvvvvvvvvvvvvvvvvvvvvvvvvvvvvvvvvvvvvvvvvvvvvvvv rules 0 zones 0 links 0\n",
+    ),
+    (
+        "# version vvvvvvvvvvvvvvvvvvvvvvvvvvvvvvvvvvvvvvvvvvvvvvvvvvvvvvvvvvvvvvvvv\n",
+        "ok unknown rules 0 zones 0 links 0\n",
     ),
 ];
 

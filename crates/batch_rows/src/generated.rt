@@ -1,6 +1,6 @@
 //! Generated scripts of one lane: a list of its own tells each reply and each write beforehand.
-use crate::batches::batch_files;
-use crate::outside::run_batch;
+use crate::outside::run;
+use row_files::{files_of, named_texts};
 use std::alloc::{AllocError, Global};
 use std::test::Fail;
 use tz_cli::Status;
@@ -273,11 +273,13 @@ fn generated_scripts_are_answered_as_a_list_tells(rt: HostRuntime) -> Result<(),
             expected.take(line, number)?;
         }
         let ended = expected.end()?;
-        let mut files = batch_files(alloc, expected.script.as_slice())?;
-        let line = format!(in alloc; "batch generated {slots} - A B Z")?;
-        let (status, taken) = run_batch(&rt, alloc, &mut files, line.as_str())?;
-        assert_eq!(rt; status, Status::Ok, "{place}");
         let printed = expected.printed(OPERATIONS.saturating_add(ended))?;
+        let mut list = named_texts(alloc)?;
+        list.push((format!(in alloc; "generated")?, expected.script))?;
+        let mut files = files_of(alloc, list)?;
+        let line = format!(in alloc; "batch generated {slots} - A B Z")?;
+        let (status, taken) = run(&rt, alloc, &mut files, line.as_str(), 64, 65_536)?;
+        assert_eq!(rt; status, Status::Ok, "{place}");
         assert_eq!(rt; taken.as_slice(), printed.as_slice(), "{place}");
     }
     Ok(())

@@ -1,0 +1,19 @@
+//! Tests of batches: worked scripts, generated ones, faults of files and sinks, and limits in bytes.
+#![tactic(auto)]
+
+#[cfg(test)]
+mod batches;
+#[cfg(test)]
+mod commands;
+#[cfg(test)]
+mod faults;
+#[cfg(test)]
+mod generated;
+#[cfg(test)]
+mod outside;
+#[cfg(test)]
+mod scripts;
+#[cfg(test)]
+mod sinks;
+#[cfg(test)]
+mod sizes;

@@ -1,0 +1,11 @@
+//! Words of command lines.
+use std::alloc::{AllocError, Global};
+
+/// The words of a command line, which has white space between them.
+pub fn words_of(alloc: Global, line: &str) -> Result<Vec<String>, AllocError> {
+    let mut words = Vec::new(alloc);
+    for word in line.split_whitespace() {
+        words.push(String::from_str(alloc, word)?)?;
+    }
+    Ok(words)
+}
