@@ -96,7 +96,7 @@ while read -r word rest; do
 done <"$room/forms"
 
 # Crates.
-sed -nE 's/^([a-z_]+)[: ].*/\1/p' crates.txt | grep -vE '_rows$|^bench_|^tzlist|^example_|_laws$|^row_files$|^manual_forms$' | sort >"$room/crates"
+sed -nE 's/^([a-z_]+)[: ].*/\1/p' crates.txt | grep -vE '_rows$|^bench_|^tzlist|^example_|_laws$|^row_files$' | sort >"$room/crates"
 sed -nE 's/^\| `([a-z_]+)` \|.*/\1/p' docs/GUIDE.md | sort -u >"$room/guide"
 compare "$room/crates" "$room/guide" "no crate of docs/GUIDE.md" "no crate of crates.txt"
 
