@@ -50,7 +50,7 @@ Gives answers (Err refusal) = IsRefusal answers refusal
 -- want of memory, or the source is refused
 abbrev pub RefusesAsText : Source → Refusal → Type 0
 RefusesAsText source refusals.Memory = Unit {0}
-RefusesAsText source (refusals.Text fault) = texts.IsRefusal source fault
+RefusesAsText source (refusals.Text fault) = texts.Refuses source fault
 RefusesAsText source _ = ⊥
 
 -- want of memory, or out of range for that reason
