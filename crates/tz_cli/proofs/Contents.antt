@@ -3,7 +3,7 @@ use Rattle.std.proofs.Common.{◌≡◌, ℕ, ◌+◌, ◌<◌, ◌≤◌, List,
 use Rattle.std.specs.List.{AllZip, Any, concat, slice_index_or}
 use Rattle.std.proofs.lemmas.List.{length-take, take_all, append_assoc}
 use Rattle.std.proofs.lemmas.List.Sums.{sum_by_push, sum_by-append, sum_by-cons}
-use Rattle.tz_types.specs.Limit.{most_bytes}
+use Rattle.tz_types.specs.declared.limit.TheConstants.{MOST_BYTES}
 use Rattle.tz_types.specs.Source.{bytes_together}
 use Rattle.tz_io.specs.Files.{IsFront}
 use Rattle.tz_cli.specs.Outcome.{FileContents, Holds, MayRead, MayReadAll, FailsToRead, ReadsTooMuch}
@@ -41,10 +41,10 @@ pub record HasRead (told : Option FileContents) (names left_names contents : Lis
   pub done : List (List ℕ)
   pub names_are : names ≡ done ++ left_names
   pub read : MayReadAll told done contents
-  pub bytes : left + bytes_together contents ≡ most_bytes
+  pub bytes : left + bytes_together contents ≡ MOST_BYTES
 
 -- nothing is read yet
-pub none_read : (told : Option FileContents) (names : List (List ℕ)) → HasRead told names names [] most_bytes
+pub none_read : (told : Option FileContents) (names : List (List ℕ)) → HasRead told names names [] MOST_BYTES
 none_read told names = record { done = []; names_are = refl; read = tt; bytes = refl }
 
 -- one more file is read
@@ -65,7 +65,7 @@ all_read told names contents left has =
     let are : names ≡ has.done = has.names_are ∙ append-nil has.done in
     rw are has.read
 
-pub few_read : (told : Option FileContents) (names left_names contents : List (List ℕ)) (left : ℕ) → HasRead told names left_names contents left → bytes_together contents ≤ most_bytes
+pub few_read : (told : Option FileContents) (names left_names contents : List (List ℕ)) (left : ℕ) → HasRead told names left_names contents left → bytes_together contents ≤ MOST_BYTES
 few_read told names left_names contents left has =
     let bytes = has.bytes in omega (arith, bytes)
 
@@ -134,7 +134,7 @@ first_contents told (n ∷ first) later (c ∷ contents) (r ∷ read) are may =
     (others.0, ap (λ (it : List ℕ). it ∷ contents) (sym one) ∙ ap (λ (them : List (List ℕ)). r ∷ them) others.1)
 
 -- where first contents are too large, all are
-pub too_much : (told : Option FileContents) (names contents read : List (List ℕ)) → AllZip (Holds told) names contents → ReadsTooMuch told names read → most_bytes < bytes_together contents
+pub too_much : (told : Option FileContents) (names contents read : List (List ℕ)) → AllZip (Holds told) names contents → ReadsTooMuch told names read → MOST_BYTES < bytes_together contents
 too_much told names contents read are much =
     let all : AllZip (Holds told) (much.first ++ much.later) contents = subst (λ (them : List (List ℕ)). AllZip (Holds told) them contents) much.names_are are in
     let others = first_contents told much.first much.later contents read all much.read in

@@ -1,7 +1,7 @@
 -- What is due at a status, and which status is.
 use Rattle.std.proofs.Common.{◌≡◌, ℕ, ◌<◌, List, ◌⊎◌, inl, inr, Option, refl, sym, subst, arith}
 use Rattle.std.specs.List.{AllZip, Any}
-use Rattle.tz_types.specs.Limit.{most_bytes}
+use Rattle.tz_types.specs.declared.limit.TheConstants.{MOST_BYTES}
 use Rattle.tz_types.specs.Source.{bytes_together}
 use Rattle.tz_cli.specs.Command.{Command, Info, Local, Moves, Days, Tzif, Dump, Check, Clock, IsCommand, files_of}
 use Rattle.tz_cli.specs.Answer.{TextAnswers, IsAnswer}
@@ -40,7 +40,7 @@ refusal_due command told failed refusals.Memory refused = inl refl
 refusal_due command told failed refusal refused = refused
 
 -- over contents that are too large together, that is the status
-large_status : (command : Command) (contents : List (List ℕ)) (status : Status) (line : List ℕ) → most_bytes < bytes_together contents → IsAnswer command contents status line → statuses.TooLarge ≡ status
+large_status : (command : Command) (contents : List (List ℕ)) (status : Status) (line : List ℕ) → MOST_BYTES < bytes_together contents → IsAnswer command contents status line → statuses.TooLarge ≡ status
 large_status command contents status line large answer =
     elim (sized command contents status line answer) [
       | inl is ↦ sym is.0

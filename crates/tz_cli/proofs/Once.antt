@@ -4,7 +4,7 @@ use mathlib.Core.HLevel.{is_prop→PathP}
 use Rattle.std.proofs.Props.{props}
 use Rattle.std.specs.Cmp.Lexicographic.{pointwise}
 use Rattle.std.specs.List.{concat}
-use Rattle.tz_types.specs.Limit.{most_bytes, most_files}
+use Rattle.tz_types.specs.declared.limit.TheConstants.{MOST_BYTES, MOST_FILES}
 use Rattle.tz_types.specs.Source.{bytes_together}
 use Rattle.tz_types.specs.declared.leaps.Leaps.{Leaps}
 use Rattle.tz_types.specs.declared.range.LocalInfo.{LocalInfo}
@@ -432,8 +432,8 @@ same_source text contents a b first second = by_parts (first.version_is ∙ sym 
       version = version i;
       files = files i;
       some_file = is_prop→PathP (λ j. 1 ≤ length (files j)) (λ j. hlevel props) a.some_file b.some_file i;
-      few_files = is_prop→PathP (λ j. length (files j) ≤ most_files) (λ j. hlevel props) a.few_files b.few_files i;
-      few_bytes = is_prop→PathP (λ j. bytes_together (files j) ≤ most_bytes) (λ j. hlevel props) a.few_bytes b.few_bytes i;
+      few_files = is_prop→PathP (λ j. length (files j) ≤ MOST_FILES) (λ j. hlevel props) a.few_files b.few_files i;
+      few_bytes = is_prop→PathP (λ j. bytes_together (files j) ≤ MOST_BYTES) (λ j. hlevel props) a.few_bytes b.few_bytes i;
     }
 
 -- what has one status over each source has one over contents
@@ -460,7 +460,7 @@ text_once (Clock leaps conversion number) contents r s line other a b =
     clock_once (concat contents) conversion number r s line other a b
 
 -- the contents are too large, or the answer is one over a text
-pub sized : (command : Command) (contents : List (List ℕ)) (r : Status) (line : List ℕ) → IsAnswer command contents r line → ((r ≡ statuses.TooLarge) × (most_bytes < bytes_together contents)) ⊎ ((bytes_together contents ≤ most_bytes) × TextAnswers command contents r line)
+pub sized : (command : Command) (contents : List (List ℕ)) (r : Status) (line : List ℕ) → IsAnswer command contents r line → ((r ≡ statuses.TooLarge) × (MOST_BYTES < bytes_together contents)) ⊎ ((bytes_together contents ≤ MOST_BYTES) × TextAnswers command contents r line)
 sized command contents statuses.TooLarge line a = inl (refl, a.0)
 sized command contents r line a = inr a
 

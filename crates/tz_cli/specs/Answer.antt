@@ -1,7 +1,7 @@
 -- What a command answers over the contents of the files that it reads.
 use Rattle.std.specs.Prelude.{◌≡◌, ℕ, ◌<◌, ◌≤◌, Bool, true, false, List, codes}
 use Rattle.std.specs.List.{concat}
-use Rattle.tz_types.specs.Limit.{most_bytes}
+use Rattle.tz_types.specs.declared.limit.TheConstants.{MOST_BYTES}
 use Rattle.tz_types.specs.Source.{bytes_together}
 use Rattle.tz_types.specs.declared.source.Source.{Source}
 use Rattle.tz_cli.specs.NamedText.{NamedText, IsSourceOf}
@@ -44,9 +44,9 @@ TextAnswers (Clock leaps conversion number) contents status line =
 -- the same over any contents: where they are too large together, that is the one answer
 abbrev pub IsAnswer : Command → List (List ℕ) → Status → List ℕ → Type 0
 IsAnswer command contents statuses.TooLarge line =
-    (most_bytes < bytes_together contents) × (line ≡ codes "toolarge\n")
+    (MOST_BYTES < bytes_together contents) × (line ≡ codes "toolarge\n")
 IsAnswer command contents status line =
-    (bytes_together contents ≤ most_bytes) × TextAnswers command contents status line
+    (bytes_together contents ≤ MOST_BYTES) × TextAnswers command contents status line
 
 -- The command prints what it has made before it makes the rest.
 abbrev pub comes_in_pieces : Command → Bool

@@ -2,7 +2,7 @@
 use Rattle.std.specs.Prelude.{◌≡◌, ℕ, ◌==◌, nat_le, Bool, not, ◌&&◌, if◌then◌else◌, List, [], ◌∷◌, length, true, Option, Some, None}
 use Rattle.std.specs.Borrow.{Bor}
 use Rattle.std.specs.List.{list_all}
-use Rattle.tz_types.specs.Limit.{most_files}
+use Rattle.tz_types.specs.declared.limit.TheConstants.{MOST_FILES}
 use Rattle.tz_types.specs.declared.source.Source.{Source}
 use Rattle.tz_specs.specs.Choice.{only_if}
 use Rattle.tz_specs.specs.Parts.{parts_at}
@@ -24,7 +24,7 @@ are_names names = list_all (λ name. not (is_empty name)) names
 
 -- one to sixteen names of files
 abbrev pub are_file_names : List (List ℕ) → Bool
-are_file_names names = nat_le 1 (length names) && nat_le (length names) most_files && are_names names
+are_file_names names = nat_le 1 (length names) && nat_le (length names) MOST_FILES && are_names names
 
 -- no version, or one of 1 to 64 visible bytes
 abbrev pub may_be_given : Option (List ℕ) → Bool

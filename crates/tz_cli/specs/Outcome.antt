@@ -1,7 +1,7 @@
 -- What is due at each status.
 use Rattle.std.specs.Prelude.{◌≡◌, ℕ, ◌<◌, ◌≤◌, ◌⊎◌, List, ◌∷◌, ◌++◌, take, Option, Some, None, IsTrue, codes}
 use Rattle.std.specs.List.{AllZip}
-use Rattle.tz_types.specs.Limit.{most_bytes}
+use Rattle.tz_types.specs.declared.limit.TheConstants.{MOST_BYTES}
 use Rattle.tz_types.specs.Source.{bytes_together}
 use Rattle.tz_io.specs.Counts.{Rose}
 use Rattle.tz_cli.specs.Command.{Command, IsCommand, IsNoCommand, files_of}
@@ -34,7 +34,7 @@ pub record ReadsUpTo (told : Option FileContents) (names : List (List ℕ)) (nam
   pub names_are : names ≡ first ++ name ∷ later
   pub contents : List (List ℕ)
   pub read : MayReadAll told first contents
-  pub few_bytes : bytes_together contents ≤ most_bytes
+  pub few_bytes : bytes_together contents ≤ MOST_BYTES
 
 -- A read fails of the first file that isn't read.
 abbrev pub FailsToRead : Option FileContents → List (List ℕ) → (List ℕ → Type 0) → Type 0
@@ -46,7 +46,7 @@ pub record ReadsTooMuch (told : Option FileContents) (names contents : List (Lis
   pub later : List (List ℕ)
   pub names_are : names ≡ first ++ later
   pub read : MayReadAll told first contents
-  pub many_bytes : most_bytes < bytes_together contents
+  pub many_bytes : MOST_BYTES < bytes_together contents
 
 -- A fault of that file was counted, by the counts before and now.
 abbrev pub Failed : (List ℕ → ℕ) → (List ℕ → ℕ) → List ℕ → Type 0

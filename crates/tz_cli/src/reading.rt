@@ -1,6 +1,6 @@
 //! The files that a command reads, one after another.
 ghost use Rattle.std.specs.Prelude.{◌≡◌, ◌≤◌, ℕ, List, ◌∷◌, [], length, IfOk, IfErr, OnOk};
-ghost use Rattle.tz_types.specs.Limit.{most_bytes};
+ghost use Rattle.tz_types.specs.declared.limit.TheConstants.{MOST_BYTES};
 ghost use Rattle.tz_types.specs.Source.{bytes_together};
 ghost use Rattle.tz_cli.specs.NamedText.{parts_of};
 ghost use Rattle.tz_cli.specs.Command.{files_of, leap_files, meant};
@@ -21,7 +21,7 @@ fn read_file<F: Files>(
     left: usize,
     files: &mut F,
 ) -> Result<Vec<u8>, Refusal>
-    requires { left ≤ most_bytes }
+    requires { left ≤ MOST_BYTES }
     ensures content { IfOk result (λ content. MayRead (F.told files.old) name.now content.items) }
     ensures short { IfOk result (λ content. length content.items ≤ left) }
     ensures unharmed { OnOk result ((other : List ℕ) → F.faults files.new other ≡ F.faults files.old other) }
@@ -47,7 +47,7 @@ pub fn read_files<F: Files>(
     files: &mut F,
 ) -> Result<Items<Text>, Refusal>
     ensures contents { IfOk result (λ contents. MayReadAll (F.told files.old) (parts_of names.now) contents) }
-    ensures short { IfOk result (λ contents. bytes_together contents ≤ most_bytes) }
+    ensures short { IfOk result (λ contents. bytes_together contents ≤ MOST_BYTES) }
     ensures unharmed { OnOk result ((other : List ℕ) → F.faults files.new other ≡ F.faults files.old other) }
     ensures refused { IfErr result (λ refusal. RefusesContents (F.told files.old) (parts_of names.now) (Failed (F.faults files.old) (F.faults files.new)) refusal) }
     ensures told { F.told files.new ≡ F.told files.old }
@@ -73,7 +73,7 @@ pub fn read_files<F: Files>(
 /// The content of the one file of that name.
 pub fn read_one<F: Files>(alloc: Global, name: &str, files: &mut F) -> Result<Items<Text>, Refusal>
     ensures contents { IfOk result (λ contents. MayReadAll (F.told files.old) (name.now ∷ []) contents) }
-    ensures short { IfOk result (λ contents. bytes_together contents ≤ most_bytes) }
+    ensures short { IfOk result (λ contents. bytes_together contents ≤ MOST_BYTES) }
     ensures unharmed { OnOk result ((other : List ℕ) → F.faults files.new other ≡ F.faults files.old other) }
     ensures refused { IfErr result (λ refusal. RefusesContents (F.told files.old) (name.now ∷ []) (Failed (F.faults files.old) (F.faults files.new)) refusal) }
     ensures told { F.told files.new ≡ F.told files.old }
@@ -96,7 +96,7 @@ pub fn read_leaps<F: Files>(
     files: &mut F,
 ) -> Result<Items<Text>, Refusal>
     ensures contents { IfOk result (λ contents. MayReadAll (F.told files.old) (leap_files leaps.now) contents) }
-    ensures short { IfOk result (λ contents. bytes_together contents ≤ most_bytes) }
+    ensures short { IfOk result (λ contents. bytes_together contents ≤ MOST_BYTES) }
     ensures unharmed { OnOk result ((other : List ℕ) → F.faults files.new other ≡ F.faults files.old other) }
     ensures refused { IfErr result (λ refusal. RefusesContents (F.told files.old) (leap_files leaps.now) (Failed (F.faults files.old) (F.faults files.new)) refusal) }
     ensures told { F.told files.new ≡ F.told files.old }
@@ -114,7 +114,7 @@ pub fn contents_of<F: Files>(
     files: &mut F,
 ) -> Result<Items<Text>, Refusal>
     ensures contents { IfOk result (λ contents. MayReadAll (F.told files.old) (files_of (meant command.entry)) contents) }
-    ensures short { IfOk result (λ contents. bytes_together contents ≤ most_bytes) }
+    ensures short { IfOk result (λ contents. bytes_together contents ≤ MOST_BYTES) }
     ensures refused { IfErr result (λ refusal. RefusesContents (F.told files.old) (files_of (meant command.entry)) (Failed (F.faults files.old) (F.faults files.new)) refusal) }
     ensures told { F.told files.new ≡ F.told files.old }
 {

@@ -20,7 +20,7 @@ pub struct TextWord<'w> {
 
 impl<'w> TextWord<'w> {
     ghost use Rattle.std.specs.Prelude.{◌≤◌};
-    ghost use Rattle.tz_types.specs.Limit.{most_bytes};
+    ghost use Rattle.tz_types.specs.declared.limit.TheConstants.{MOST_BYTES};
     ghost use Rattle.tz_types.specs.Source.{bytes_together};
     ghost use Rattle.tz_cli.specs.NamedText.{IsSourceOf, text_with_names, text_with_version, named_text_of};
     ghost use Rattle.tz_cli.specs.Command.{named};
@@ -62,7 +62,7 @@ impl<'w> TextWord<'w> {
     /// The source of the text named, by the contents of its files.
     pub fn source(self, contents: Items<Text>) -> Source
         requires each { length contents ≡ length (named self).files }
-        requires few_bytes { bytes_together contents ≤ most_bytes }
+        requires few_bytes { bytes_together contents ≤ MOST_BYTES }
         ensures { IsSourceOf (named self.entry) contents result }
     {
         let version = match self.version {

@@ -1,7 +1,7 @@
 //! Every command but `batch`: from its words over the contents of its files to what it prints.
 ghost use Rattle.std.specs.Prelude.{◌≡◌, ◌≢◌, ◌⊎◌, ◌≤◌, ◌↔◌, ℕ, List, length, IfOk};
 ghost use Rattle.std.specs.List.{AllZip, Any, concat};
-ghost use Rattle.tz_types.specs.Limit.{most_bytes};
+ghost use Rattle.tz_types.specs.declared.limit.TheConstants.{MOST_BYTES};
 ghost use Rattle.tz_types.specs.Source.{bytes_together};
 ghost use Rattle.tz_io.specs.Counts.{Rose};
 ghost use Rattle.tz_io.specs.Sink.{Appends, AppendsPart};
@@ -50,7 +50,7 @@ fn answer_over(
     contents: Items<Text>,
 ) -> Result<Output, Refusal>
     requires each { length contents ≡ length (files_of (meant command)) }
-    requires few_bytes { bytes_together contents ≤ most_bytes }
+    requires few_bytes { bytes_together contents ≤ MOST_BYTES }
     ensures answers { GivesOutput (TextAnswers (meant command.entry) contents) result }
     ensures pieces { IfOk result (λ output. is_in_pieces output ≡ comes_in_pieces (meant command.entry)) }
 {

@@ -14,7 +14,7 @@ use Rattle.tz_types.specs.Year.{IsWrittenYear}
 use Rattle.tz_types.specs.Amount.{IsTimeOfDay, IsShift}
 use Rattle.tz_types.specs.Calendar.{has_day_through}
 use Rattle.tz_types.specs.Order.{ascends}
-use Rattle.tz_types.specs.Limit.{most_rules}
+use Rattle.tz_types.specs.declared.limit.TheConstants.{MOST_RULES}
 use Rattle.tz_types.specs.declared.calendar.Month.{Month}
 use Rattle.tz_types.specs.declared.calendar.On.{On}
 use Rattle.tz_types.specs.declared.moment.AtKind.{AtKind}
@@ -115,7 +115,7 @@ rule_set_from_fields a b name rules =
       name = name i;
       rules = rules i;
       in_line_order = is_prop→PathP (λ j. IsTrue (ascends nat_lt (map (λ (rule : Rule). rule.line) (rules j)))) (λ j. hlevel props) a.in_line_order b.in_line_order i;
-      few_enough = is_prop→PathP (λ j. length (rules j) ≤ most_rules) (λ j. hlevel props) a.few_enough b.few_enough i;
+      few_enough = is_prop→PathP (λ j. length (rules j) ≤ MOST_RULES) (λ j. hlevel props) a.few_enough b.few_enough i;
     }
 
 rule_set_same : (a b : RuleSet) → Decides (rule_set_eq a b) (a ≡ b)

@@ -4,7 +4,7 @@ use Rattle.std.proofs.lemmas.Bool.{and_parts, and_from}
 use Rattle.std.specs.List.{last_or, list_all, slice_get}
 use Rattle.std.proofs.lemmas.List.{length-map, map-append}
 use Rattle.std.proofs.lemmas.List.Folds.{list_all-append}
-use Rattle.tz_types.specs.Limit.{most_lines}
+use Rattle.tz_types.specs.declared.limit.TheConstants.{MOST_ZONE_LINES}
 use Rattle.tz_types.specs.declared.until.Until.{Until}
 use Rattle.tz_types.specs.declared.zone_line.ZoneLine.{ZoneLine}
 use Rattle.tz_types.specs.declared.zone.Zone.{Zone}
@@ -46,7 +46,7 @@ pub waits_by_line : (names : List (List ℕ)) (zones : List Zone) (zone : Zone) 
 waits_by_line names zones zone line e h =
     rw (last_lines_of names zones zone e) (rw (last_is (written_line names) zone.lines line h) (until_some line.until))
 
-pub full_by_lines : (names : List (List ℕ)) (zones : List Zone) (zone : Zone) → Some zone ≡ slice_get zones (length zones - 1) → nat_le most_lines (length zone.lines) ≡ nat_le most_lines (length (last_lines (map (written_zone names) zones)))
+pub full_by_lines : (names : List (List ℕ)) (zones : List Zone) (zone : Zone) → Some zone ≡ slice_get zones (length zones - 1) → nat_le MOST_ZONE_LINES (length zone.lines) ≡ nat_le MOST_ZONE_LINES (length (last_lines (map (written_zone names) zones)))
 full_by_lines names zones zone e =
     rw (last_lines_of names zones zone e) (rw (length-map zone.lines (written_line names)) refl)
 

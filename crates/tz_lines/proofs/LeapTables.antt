@@ -12,7 +12,7 @@ use Rattle.std.proofs.lemmas.List.Sums.{sum_by-cons}
 use Rattle.std.proofs.lemmas.List.Elements.{Contains-append_left, Contains-append_right, Contains-append_cases, All-contains}
 use Rattle.std.proofs.lemmas.List.Sorted.{IsPermutation-map, Contains-permutation, IsPermutation-sym, length_permutation, list_any-IsPermutation, sum_by-IsPermutation}
 use Rattle.tz_types.specs.Order.{ascends, ascends_after}
-use Rattle.tz_types.specs.Limit.{most_leaps}
+use Rattle.tz_types.specs.declared.limit.TheConstants.{MOST_LEAPS}
 use Rattle.tz_types.specs.declared.cause.Cause.{Cause}
 use Rattle.tz_types.specs.declared.cause.Cause.TheVariants as causes
 use Rattle.tz_types.specs.declared.fault.LineFault.{LineFault}
@@ -502,7 +502,7 @@ table_ascends leaps ordered expiries given permuted sorted told =
     let are = are_ordered leaps ordered good.0 good.1.rise permuted sorted in
     ascend_in_order ordered are.rise (no_repeats leaps ordered expiries told)
 
-pub table_is_small : (leaps ordered : List WrittenLeap) (expiries : List WrittenExpiry) → AreGiven (contents_of leaps expiries) → IsPermutation leaps ordered → length (map entry_meant ordered) ≤ most_leaps
+pub table_is_small : (leaps ordered : List WrittenLeap) (expiries : List WrittenExpiry) → AreGiven (contents_of leaps expiries) → IsPermutation leaps ordered → length (map entry_meant ordered) ≤ MOST_LEAPS
 table_is_small leaps ordered expiries given permuted =
     let good = text_good given.0 (contents_of leaps expiries) given.1 in
     omega (arith, good.1.few, length-map leaps leap_meant, length-map ordered entry_meant, length_permutation leaps ordered permuted)

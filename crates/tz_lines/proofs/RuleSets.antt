@@ -7,7 +7,7 @@ use Rattle.std.specs.Result.{OnOk, OnErr}
 use Rattle.std.proofs.lemmas.List.{length-map, length-append, get_or-map, map-set, map-append, set-get_or}
 use Rattle.std.proofs.lemmas.List.Edits.{length-insert}
 use Rattle.tz_types.specs.Order.{ascends, ascends_after, name_before}
-use Rattle.tz_types.specs.Limit.{most_rules, most_sets}
+use Rattle.tz_types.specs.declared.limit.TheConstants.{MOST_RULES, MOST_SETS}
 use Rattle.tz_types.specs.declared.rule.Rule.{Rule}
 use Rattle.tz_types.specs.declared.rule_set.RuleSet.{RuleSet}
 use Rattle.tz_specs.specs.Written.{WrittenRule, WrittenSet, written_rule, written_set, set_names}
@@ -32,7 +32,7 @@ written_names (set ∷ sets) = ap (λ (names : List (List ℕ)). set.name ∷ na
 
 -- whether one more rule is too many
 
-pub full_known : (sets : List RuleSet) (name : List ℕ) (place : ℕ) (set : RuleSet) → name_place name (set_names sets) ≡ Ok place → place < length sets → set ≡ get_or sets place set → nat_le most_rules (length set.rules) ≡ is_full_set (map written_set sets) (find (is_set_named name) (map written_set sets))
+pub full_known : (sets : List RuleSet) (name : List ℕ) (place : ℕ) (set : RuleSet) → name_place name (set_names sets) ≡ Ok place → place < length sets → set ≡ get_or sets place set → nat_le MOST_RULES (length set.rules) ≡ is_full_set (map written_set sets) (find (is_set_named name) (map written_set sets))
 full_known sets name place set e within is =
     let written : name_place name (map name_of (map written_set sets)) ≡ Ok place = rw (written_names sets) e in
     let there = get_or-map written_set sets place set (written_set set) within in
@@ -40,7 +40,7 @@ full_known sets name place set e within is =
     let at = found-find name_of name (map written_set sets) place (written_set set) written ∙ ap Some (there ∙ read) in
     rw at (rw (length-map set.rules written_rule) refl)
 
-pub full_new : (sets : List RuleSet) (name : List ℕ) (place : ℕ) → IsTrue (ascends name_before (set_names sets)) → name_place name (set_names sets) ≡ Err place → nat_le most_sets (length sets) ≡ is_full_set (map written_set sets) (find (is_set_named name) (map written_set sets))
+pub full_new : (sets : List RuleSet) (name : List ℕ) (place : ℕ) → IsTrue (ascends name_before (set_names sets)) → name_place name (set_names sets) ≡ Err place → nat_le MOST_SETS (length sets) ≡ is_full_set (map written_set sets) (find (is_set_named name) (map written_set sets))
 full_new sets name place up e =
     let written : name_place name (map name_of (map written_set sets)) ≡ Err place = rw (written_names sets) e in
     let ascend : Ascend name_of (map written_set sets) = rw (written_names sets) up in
@@ -69,7 +69,7 @@ pub still_in_line_order : {A E : Type 0} (result : Result A E) (old new : List R
 still_in_line_order (Ok done) old new rule ok err up all = rw ok (lines_pushed old rule up all)
 still_in_line_order (Err error) old new rule ok err up all = rw err up
 
-pub still_few_rules : {A E : Type 0} (result : Result A E) (old new : List Rule) (rule : Rule) → OnOk result (new ≡ old ++ rule ∷ []) → OnErr result (new ≡ old) → length old < most_rules → length new ≤ most_rules
+pub still_few_rules : {A E : Type 0} (result : Result A E) (old new : List Rule) (rule : Rule) → OnOk result (new ≡ old ++ rule ∷ []) → OnErr result (new ≡ old) → length old < MOST_RULES → length new ≤ MOST_RULES
 still_few_rules (Ok done) old new rule ok err room = rw ok (rw (length-append old (rule ∷ [])) (omega arith))
 still_few_rules (Err error) old new rule ok err room = rw err (omega arith)
 
@@ -158,7 +158,7 @@ pub place_before : (number : ℕ) (sets : List RuleSet) (place : ℕ) (it : Rule
 place_before number sets place it within is h =
     ap (λ (set : RuleSet). list_all (λ (rule : Rule). nat_lt rule.line number) set.rules) is ∙ set_before number sets place it within h
 
-pub room_for_set : (sets : List RuleSet) (place : ℕ) (new : RuleSet) → place ≤ length sets → length sets < most_sets → length (insert sets place new) ≤ most_sets
+pub room_for_set : (sets : List RuleSet) (place : ℕ) (new : RuleSet) → place ≤ length sets → length sets < MOST_SETS → length (insert sets place new) ≤ MOST_SETS
 room_for_set sets place new within few = rw (length-insert sets place new within) (omega arith)
 
 -- the set at a place, whatever stands for a place that is none

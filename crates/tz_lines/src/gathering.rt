@@ -1,7 +1,7 @@
 //! All lines of all files of a source, one after another.
 ghost use Rattle.std.specs.Prelude.{◌≡◌, ◌+◌, ◌<◌, ◌≤◌, ◌==◌, ◌∷◌, ℕ, false, List, Ok, IfOk, IfErr, OnOk, length, IsTrue};
 ghost use Rattle.std.specs.List.{list_any};
-ghost use Rattle.tz_types.specs.Limit.{most_bytes};
+ghost use Rattle.tz_types.specs.declared.limit.TheConstants.{MOST_BYTES};
 ghost use Rattle.tz_types.specs.Source.{bytes_together};
 ghost use Rattle.tz_specs.specs.Line.{lines_of};
 ghost use Rattle.tz_specs.specs.Contents.{contents_after, contents_over, contents_of};
@@ -113,7 +113,7 @@ fn take_file(
 
 /// What all lines of all files give.
 pub fn gather(alloc: Global, files: &[Text]) -> Result<Gathered, LineError>
-    requires { bytes_together files.now ≤ most_bytes }
+    requires { bytes_together files.now ≤ MOST_BYTES }
     ensures ok { IfOk result (λ gathered. contents_of files.now ≡ Ok (contents_gathered gathered)) }
     ensures ended { IfOk result (λ gathered. gathered.begun ≡ false) }
     ensures err { IfErr result (λ e. MeansLineFault e (contents_of files.now)) }

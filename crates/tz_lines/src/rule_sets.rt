@@ -3,7 +3,7 @@ ghost use Rattle.std.specs.Prelude.{◌≡◌, ◌∷◌, ◌++◌, [], ◌<◌,
 ghost use Rattle.std.specs.List.{insert, list_all, HoldsAt};
 ghost use Rattle.std.specs.List.Sorted.{IsSearchInRange};
 ghost use Rattle.tz_types.specs.Order.{ascends, name_before};
-ghost use Rattle.tz_types.specs.Limit.{most_rules, most_sets};
+ghost use Rattle.tz_types.specs.declared.limit.TheConstants.{MOST_RULES, MOST_SETS};
 ghost use Rattle.tz_types.specs.declared.rule.Rule.{Rule as DeclaredRule};
 ghost use Rattle.tz_types.specs.declared.rule_set.RuleSet.{RuleSet as DeclaredSet};
 ghost use Rattle.tz_specs.specs.Written.{written_rule, written_set, set_names};
@@ -55,7 +55,7 @@ fn push_rule(set: &mut RuleSet, rule: Rule) -> Result<(), AddError>
     requires { IsTrue (list_all (λ (other : DeclaredRule). nat_lt other.line rule.line) set.old.rules) }
     ensures rules { OnOk result (set.new.rules ≡ set.old.rules ++ rule ∷ []) }
     ensures name { set.new.name ≡ set.old.name }
-    ensures limit { MeansLimit result (nat_le most_rules (length set.old.rules)) }
+    ensures limit { MeansLimit result (nat_le MOST_RULES (length set.old.rules)) }
 {
     if set.rules.len() >= 512 {
         return Err(AddError::Limit);
@@ -96,12 +96,12 @@ pub fn add_rule(
     rule: Rule,
 ) -> Result<(), AddError>
     requires ascending { IsTrue (ascends name_before (set_names sets.old.items)) }
-    requires few { length sets.old.items ≤ most_sets }
+    requires few { length sets.old.items ≤ MOST_SETS }
     requires later { IsTrue (are_before rule.line (map written_set sets.old.items)) }
     ensures limit { MeansLimit result (is_full_set (map written_set sets.old.items) (find (is_set_named name.entry.bytes.now) (map written_set sets.old.items))) }
     ensures sets { OnOk result (map written_set sets.new.items ≡ with_rule name.entry.bytes.now (written_rule rule) (map written_set sets.old.items)) }
     ensures ascending { OnOk result (IsTrue (ascends name_before (set_names sets.new.items))) }
-    ensures few { OnOk result (length sets.new.items ≤ most_sets) }
+    ensures few { OnOk result (length sets.new.items ≤ MOST_SETS) }
 {
     match set_place(sets.as_slice(), *likely, name.as_bytes()) {
         Ok(place) => {

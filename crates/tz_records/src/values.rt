@@ -5,7 +5,7 @@ ghost use Rattle.tz_types.specs.Text.{is_printable};
 ghost use Rattle.tz_types.specs.Year.{IsWrittenYear, IsRuleYear};
 ghost use Rattle.tz_types.specs.Amount.{IsShift, IsTimeOfDay};
 ghost use Rattle.tz_types.specs.Calendar.{has_day, has_day_through};
-ghost use Rattle.tz_specs.specs.Value.{is_exactly, is_dash, rule_year_of, last_year_named, years_of, month_named, rule_day_of, until_day_of, kind_of, time_of, is_shift, stdoff_of, is_daylight, save_of, is_bad_name, is_long_name, starts_amount, letters_of};
+ghost use Rattle.tz_specs.specs.Value.{is_exactly, is_dash, rule_year_of, last_year_named, years_of, month_named, rule_day_of, until_day_of, kind_of, time_of, stdoff_of, is_daylight, save_of, is_bad_name, is_long_name, starts_amount, letters_of};
 
 use tz_text::{amount, named_among, on, year};
 use tz_types::{AtKind, Letters, Month, On, has_day, has_day_through};

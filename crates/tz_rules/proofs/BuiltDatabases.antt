@@ -13,7 +13,7 @@ use Rattle.std.proofs.lemmas.List.Sorted.{IsPermutation-sym, IsPermutation-map, 
 use Rattle.std.proofs.lemmas.Option.{slice_get-map, slice_get_within, get_or_from_slice_get}
 use Rattle.std.proofs.lemmas.Simd.{map-map}
 use Rattle.tz_types.specs.Order.{ascends, name_before}
-use Rattle.tz_types.specs.Limit.{most_zones, most_links}
+use Rattle.tz_types.specs.declared.limit.TheConstants.{MOST_ZONES, MOST_LINKS}
 use Rattle.tz_types.specs.declared.cause.Cause.TheVariants as causes
 use Rattle.tz_types.specs.declared.rule_set.RuleSet.{RuleSet}
 use Rattle.tz_types.specs.declared.zone_line.ZoneLine.{ZoneLine}
@@ -95,18 +95,18 @@ placed_apart parts placed written none in_order =
 
 -- ---- how many there are
 
-pub few_settled : (parts : Parts) (settled zones : List Zone) → AreSettledZones parts.sets parts.names parts.zones settled → IsPermutation settled zones → length zones ≤ most_zones
+pub few_settled : (parts : Parts) (settled zones : List Zone) → AreSettledZones parts.sets parts.names parts.zones settled → IsPermutation settled zones → length zones ≤ MOST_ZONES
 few_settled parts settled zones are same =
     let total = length_permutation settled zones same in
     let kept : length settled ≡ length parts.zones = sym (length-map settled zone_name_of) ∙ (ap length (zone_names_kept parts.sets parts.names parts.zones settled are) ∙ length-map parts.zones zone_name_of) in
-    let few : length parts.zones ≤ most_zones = parts.few_zones in
+    let few : length parts.zones ≤ MOST_ZONES = parts.few_zones in
     omega arith
 
-pub few_placed : (parts : Parts) (placed links : List Link) → map written_link placed ≡ map written_link parts.links → IsPermutation placed links → length links ≤ most_links
+pub few_placed : (parts : Parts) (placed links : List Link) → map written_link placed ≡ map written_link parts.links → IsPermutation placed links → length links ≤ MOST_LINKS
 few_placed parts placed links written same =
     let total = length_permutation placed links same in
     let kept : length placed ≡ length parts.links = sym (length-map placed written_link) ∙ (ap length written ∙ length-map parts.links written_link) in
-    let few : length parts.links ≤ most_links = parts.few_links in
+    let few : length parts.links ≤ MOST_LINKS = parts.few_links in
     omega arith
 
 -- ---- each link reaches a zone of the database

@@ -2,7 +2,7 @@
 ghost use Rattle.std.specs.Prelude.{◌≡◌, ◌≤◌, length, map, Some, is_some, IsTrue, IfOk};
 ghost use Rattle.std.specs.List.{list_all};
 ghost use Rattle.tz_types.specs.Order.{ascends, name_before};
-ghost use Rattle.tz_types.specs.Limit.{most_zones};
+ghost use Rattle.tz_types.specs.declared.limit.TheConstants.{MOST_ZONES};
 ghost use Rattle.tz_types.specs.declared.zone.Zone.{Zone as DeclaredZone};
 ghost use Rattle.tz_types.specs.declared.link.Link.{Link as DeclaredLink};
 ghost use Rattle.tz_specs.specs.Written.{written_link};
@@ -25,7 +25,7 @@ pub fn zone_names(alloc: Global, zones: &[Zone]) -> Result<Vec<Label>, NoMemory>
 /// The place of the zone of that name, where there is one.
 fn zone_place(zones: &[Zone], name: &[u8]) -> Option<u32>
     requires ascend { IsTrue (ascends name_before (map (λ (zone : DeclaredZone). zone.name) zones.now)) }
-    requires few { length zones.now ≤ most_zones }
+    requires few { length zones.now ≤ MOST_ZONES }
     ensures { result ≡ zone_place_of zones.now name.now }
 {
     match zones.binary_search_by(|zone| zone.name.as_bytes().cmp(name)) {
@@ -37,7 +37,7 @@ fn zone_place(zones: &[Zone], name: &[u8]) -> Option<u32>
 /// The place, among the zones, of the one whose name stands at a place among the names.
 fn place_reached(reached: Option<u32>, names: &[Label], zones: &[Zone]) -> Option<u32>
     requires ascend { IsTrue (ascends name_before (map (λ (zone : DeclaredZone). zone.name) zones.now)) }
-    requires few { length zones.now ≤ most_zones }
+    requires few { length zones.now ≤ MOST_ZONES }
     ensures { result ≡ place_reached names.now zones.now reached }
 {
     let name = names.get(reached? as usize)?;
@@ -61,7 +61,7 @@ pub fn place_links(
     zones: &[Zone],
 ) -> Vec<Link>
     requires ascend { IsTrue (ascends name_before (map (λ (zone : DeclaredZone). zone.name) zones.now)) }
-    requires few { length zones.now ≤ most_zones }
+    requires few { length zones.now ≤ MOST_ZONES }
     requires alike { length reached.now ≡ length links }
     requires there { IsTrue (list_all (λ place. is_some (place_reached names.now zones.now place)) reached.now) }
     ensures written { map written_link result.items ≡ map written_link links }

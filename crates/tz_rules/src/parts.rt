@@ -2,7 +2,7 @@
 ghost use Rattle.std.specs.Prelude.{◌≤◌, length, map, IsTrue};
 ghost use Rattle.std.specs.List.{list_all};
 ghost use Rattle.tz_types.specs.Order.{ascends, name_before};
-ghost use Rattle.tz_types.specs.Limit.{most_sets, most_zones, most_links};
+ghost use Rattle.tz_types.specs.declared.limit.TheConstants.{MOST_SETS, MOST_ZONES, MOST_LINKS};
 ghost use Rattle.tz_rules.specs.Continued.{are_continued, is_named_by};
 
 use tz_types::{Items, Label, Link, RuleSet, VersionText, Zone};
@@ -18,9 +18,9 @@ pub struct Parts {
     pub zones: Items<Zone>,
     pub links: Items<Link>,
     pub ghost sets_ascend: { IsTrue (ascends name_before (map (λ set. set.name) sets)) },
-    pub ghost few_sets: { length sets ≤ most_sets },
-    pub ghost few_zones: { length zones ≤ most_zones },
-    pub ghost few_links: { length links ≤ most_links },
+    pub ghost few_sets: { length sets ≤ MOST_SETS },
+    pub ghost few_zones: { length zones ≤ MOST_ZONES },
+    pub ghost few_links: { length links ≤ MOST_LINKS },
     pub ghost continued: { IsTrue (list_all (λ zone. are_continued zone.lines) zones) },
     pub ghost named: { IsTrue (list_all (λ zone. list_all (λ line. is_named_by (length names) line.rules) zone.lines) zones) },
 }

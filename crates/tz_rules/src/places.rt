@@ -1,7 +1,7 @@
 //! The places of rule sets, by their names.
 ghost use Rattle.std.specs.Prelude.{◌≡◌, ◌≤◌, length, map, IsTrue, IfOk};
 ghost use Rattle.tz_types.specs.Order.{ascends, name_before};
-ghost use Rattle.tz_types.specs.Limit.{most_sets};
+ghost use Rattle.tz_types.specs.declared.limit.TheConstants.{MOST_SETS};
 ghost use Rattle.tz_specs.specs.Written.{set_names};
 ghost use Rattle.tz_rules.specs.SetPlace.{set_place_of};
 
@@ -11,7 +11,7 @@ use tz_types::{Label, NoMemory, RuleSet};
 /// The place of the set of that name, where there is one.
 fn set_place(sets: &[RuleSet], name: &[u8]) -> Option<u32>
     requires ascend { IsTrue (ascends name_before (set_names sets.now)) }
-    requires few { length sets.now ≤ most_sets }
+    requires few { length sets.now ≤ MOST_SETS }
     ensures { result ≡ set_place_of sets.now name.now }
 {
     match sets.binary_search_by(|set| set.name.as_bytes().cmp(name)) {
@@ -27,7 +27,7 @@ pub fn set_places(
     names: &[Label],
 ) -> Result<Vec<Option<u32>>, NoMemory>
     requires ascend { IsTrue (ascends name_before (set_names sets.now)) }
-    requires few { length sets.now ≤ most_sets }
+    requires few { length sets.now ≤ MOST_SETS }
     ensures { IfOk result (λ places. places.items ≡ map (set_place_of sets.now) names.now) }
 {
     let mut places = Vec::with_capacity(alloc, names.len())?;

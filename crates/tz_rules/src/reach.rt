@@ -1,6 +1,6 @@
 //! The zones that links reach: the zone of the target's name, or what the target of the earliest link of that name reaches.
 ghost use Rattle.std.specs.Prelude.{◌≡◌, ◌≤◌, ℕ, false, [], List, length, map, IfOk};
-ghost use Rattle.tz_types.specs.Limit.{most_zones, most_links};
+ghost use Rattle.tz_types.specs.declared.limit.TheConstants.{MOST_ZONES, MOST_LINKS};
 ghost use Rattle.tz_specs.specs.Written.{written_zone, written_link};
 ghost use Rattle.tz_specs.specs.Whole.{zone_of_link};
 ghost use Rattle.tz_rules.specs.NameMap.{known_of};
@@ -97,8 +97,8 @@ pub fn zones_reached(
     zones: &[Zone],
     links: &[Link],
 ) -> Result<Vec<Option<u32>>, NoMemory>
-    requires few_zones { length zones.now ≤ most_zones }
-    requires few_links { length links.now ≤ most_links }
+    requires few_zones { length zones.now ≤ MOST_ZONES }
+    requires few_links { length links.now ≤ MOST_LINKS }
     ensures { IfOk result (λ reached. (names : List (List ℕ)) →
         map (name_at zones.now) reached.items
         ≡ map (zone_of_link (record { sets = []; zones = map (written_zone names) zones.now; links = map written_link links.now; begun = false })) (map written_link links.now)) }

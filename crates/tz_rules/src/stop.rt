@@ -1,6 +1,6 @@
 //! Where names lead: to a zone, or to a link that leads on.
 ghost use Rattle.std.specs.Prelude.{◌≡◌, ◌≤◌, ℕ, List, length, IfOk, OnOk};
-ghost use Rattle.tz_types.specs.Limit.{most_zones, most_links};
+ghost use Rattle.tz_types.specs.declared.limit.TheConstants.{MOST_ZONES, MOST_LINKS};
 ghost use Rattle.tz_rules.specs.NameMap.{known_of};
 ghost use Rattle.tz_rules.specs.Stops.{zone_names, link_names, first_stop, known_stop, stop_of};
 ghost use Rattle.tz_rules.specs.declared.stop.Stop.TheVariants as stops;
@@ -19,7 +19,7 @@ pub enum Stop {
 
 /// Notes the zones from the last to the first, so that the first of a name is what stays.
 fn note_zones<'a>(known: &mut HashMap<&'a [u8], Stop>, zones: &'a [Zone]) -> Result<(), NoMemory>
-    requires few { length zones.now ≤ most_zones }
+    requires few { length zones.now ≤ MOST_ZONES }
     ensures { OnOk result ((name : List ℕ) →
         known_of known.new name
         ≡ first_stop stops.Zone 0 name (zone_names zones.now) (known_of known.old name)) }
@@ -32,7 +32,7 @@ fn note_zones<'a>(known: &mut HashMap<&'a [u8], Stop>, zones: &'a [Zone]) -> Res
 
 /// Notes the links from the last to the first, so that the first of a name is what stays.
 fn note_links<'a>(known: &mut HashMap<&'a [u8], Stop>, links: &'a [Link]) -> Result<(), NoMemory>
-    requires few { length links.now ≤ most_links }
+    requires few { length links.now ≤ MOST_LINKS }
     ensures { OnOk result ((name : List ℕ) →
         known_of known.new name
         ≡ first_stop stops.Link 0 name (link_names links.now) (known_of known.old name)) }
@@ -49,8 +49,8 @@ pub fn known_stops<'a>(
     zones: &'a [Zone],
     links: &'a [Link],
 ) -> Result<HashMap<&'a [u8], Stop>, NoMemory>
-    requires few_zones { length zones.now ≤ most_zones }
-    requires few_links { length links.now ≤ most_links }
+    requires few_zones { length zones.now ≤ MOST_ZONES }
+    requires few_links { length links.now ≤ MOST_LINKS }
     ensures { IfOk result (λ known. (name : List ℕ) → known_of known name ≡ known_stop zones.now links.now name) }
 {
     let mut known = HashMap::new(alloc);

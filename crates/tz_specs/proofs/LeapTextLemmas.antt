@@ -11,7 +11,7 @@ use Rattle.std.proofs.lemmas.Bool.Decides.{nat_tests}
 use Rattle.std.proofs.lemmas.List.{length-map, length-append}
 use Rattle.std.proofs.lemmas.List.Sorted.{IsPermutation-refl, IsPermutation-sym, IsPermutation-trans, IsPermutation-cons, IsPermutation-middle, Contains-permutation, length_permutation}
 use Rattle.tz_types.specs.Order.{ascends, ascends_after}
-use Rattle.tz_types.specs.Limit.{most_leaps}
+use Rattle.tz_types.specs.declared.limit.TheConstants.{MOST_LEAPS, MOST_TEXT_LINES}
 use Rattle.tz_types.specs.Leap.{running_sums}
 use Rattle.tz_types.specs.declared.cause.Cause.{Cause}
 use Rattle.tz_types.specs.declared.cause.Cause.TheVariants as causes
@@ -102,7 +102,7 @@ same_leaps a b entries expires =
       expires = expires i;
       sums = sums i;
       ascending = is_prop→PathP (λ j. IsTrue (ascends int_lt (dates (entries j)))) (λ j. hlevel props) a.ascending b.ascending i;
-      few_enough = is_prop→PathP (λ j. length (entries j) ≤ most_leaps) (λ j. hlevel props) a.few_enough b.few_enough i;
+      few_enough = is_prop→PathP (λ j. length (entries j) ≤ MOST_LEAPS) (λ j. hlevel props) a.few_enough b.few_enough i;
       summed = is_prop→PathP (λ j. sums j ≡ running_sums (pos 0) (entries j)) (λ j. hlevel props) a.summed b.summed i;
     }
 
@@ -156,33 +156,33 @@ pub nothing_said : {A : Type 0} (cause : Option Cause) (said told : A) → unles
 nothing_said None said told h = (refl, cc)
 nothing_said (Some cause) said told h = cc
 
-entry_room : (earlier : ℕ) (fields : List (List ℕ)) → least_cause (entry_causes earlier fields) ≡ None → earlier < most_leaps
+entry_room : (earlier : ℕ) (fields : List (List ℕ)) → least_cause (entry_causes earlier fields) ≡ None → earlier < MOST_LEAPS
 unfolding entry_causes
 entry_room earlier fields h =
-    let room : nat_le most_leaps earlier ≡ false = clear_at 6 (entry_causes earlier fields) (causes.Limit, nat_le most_leaps earlier) h refl in
+    let room : nat_le MOST_LEAPS earlier ≡ false = clear_at 6 (entry_causes earlier fields) (causes.Limit, nat_le MOST_LEAPS earlier) h refl in
     grind (arith, nat_tests)
 
 pub no_expiry : (entry : LeapEntry) (moment : Option ℤ) → option_map ExpiryRecord moment ≡ Some (SecondRecord entry) → ⊥
 no_expiry entry None h = cc
 no_expiry entry (Some moment) h = cc
 
-kind_room : (earlier : ℕ) (kind : Option LeapKind) (fields : List (List ℕ)) (entry : LeapEntry) → (kind >>= λ it. leap_record_of it fields) ≡ Some (SecondRecord entry) → least_cause (leap_kind_causes earlier kind fields) ≡ None → earlier < most_leaps
+kind_room : (earlier : ℕ) (kind : Option LeapKind) (fields : List (List ℕ)) (entry : LeapEntry) → (kind >>= λ it. leap_record_of it fields) ≡ Some (SecondRecord entry) → least_cause (leap_kind_causes earlier kind fields) ≡ None → earlier < MOST_LEAPS
 kind_room earlier None fields entry e h = cc
 kind_room earlier (Some SecondLine) fields entry e h = entry_room earlier fields (clear_after 1 (leap_kind_causes earlier (Some SecondLine) fields) h)
 kind_room earlier (Some ExpiryLine) fields entry e h = absurd (no_expiry entry (moment_of fields) e)
 
-fields_room : (earlier : ℕ) (fields : List (List ℕ)) (entry : LeapEntry) → leap_record_of_fields fields ≡ Some (SecondRecord entry) → least_cause (leap_field_causes earlier fields) ≡ None → earlier < most_leaps
+fields_room : (earlier : ℕ) (fields : List (List ℕ)) (entry : LeapEntry) → leap_record_of_fields fields ≡ Some (SecondRecord entry) → least_cause (leap_field_causes earlier fields) ≡ None → earlier < MOST_LEAPS
 unfolding leap_record_of_fields leap_field_causes
 fields_room earlier [] entry e h = cc
 fields_room earlier (keyword ∷ fields) entry e h = kind_room earlier (leap_kind_of keyword) (keyword ∷ fields) entry e h
 
 -- a leap second that a line says is one for which there is room
-pub leap_room : (number earlier : ℕ) (line : List ℕ) (entry : LeapEntry) → leap_line_says number earlier line ≡ Ok (Some (SecondRecord entry)) → earlier < most_leaps
+pub leap_room : (number earlier : ℕ) (line : List ℕ) (entry : LeapEntry) → leap_line_says number earlier line ≡ Ok (Some (SecondRecord entry)) → earlier < MOST_LEAPS
 unfolding leap_line_says
 leap_room number earlier line entry h =
     let said = nothing_said (least_cause (leap_line_causes number earlier line)) (leap_record_of_fields (fields_or_none (fields_of line))) (Some (SecondRecord entry)) h in
     let fields_clear = clear_after 3 (leap_line_causes number earlier line) said.0 in
-    fields_room earlier (fields_or_none (fields_of line)) entry said.1 (front_clear (leap_field_causes earlier (fields_or_none (fields_of line))) ((causes.Limit, nat_lt 100_000 number) ∷ []) fields_clear)
+    fields_room earlier (fields_or_none (fields_of line)) entry said.1 (front_clear (leap_field_causes earlier (fields_or_none (fields_of line))) ((causes.Limit, nat_lt MOST_TEXT_LINES number) ∷ []) fields_clear)
 
 -- ---- the lines of leap seconds rise, and those of expiries, and there are few leap seconds
 
@@ -199,7 +199,7 @@ expiry_line expiry = expiry.line
 pub record GoodLeaps (contents : LeapContents) (next : ℕ) : Type 0 where
   pub rise : LinesRise leap_line 0 contents.leaps next
   pub expiries_rise : LinesRise expiry_line 0 contents.expiries next
-  pub few : length contents.leaps ≤ most_leaps
+  pub few : length contents.leaps ≤ MOST_LEAPS
 
 rise_on : {X : Type 0} (line : X → ℕ) (low : ℕ) (xs : List X) (next : ℕ) → LinesRise line low xs next → LinesRise line low xs (next + 1)
 rise_on line low [] next h = omega (arith, h)

@@ -4,6 +4,7 @@ use Rattle.std.specs.Prelude.{slice_get}
 use Rattle.std.proofs.lemmas.Int.{ints}
 use Rattle.std.proofs.lemmas.Bool.{leb-true}
 use Rattle.jiff_core.specs.Calendar.{IsWithin}
+use Rattle.tz_types.specs.declared.limit.TheConstants.{LONGEST_SHIFT}
 use Rattle.tz_types.specs.Amount.{IsShift}
 use Rattle.tz_types.specs.Saves.{is_fixed_save}
 use Rattle.tz_types.specs.declared.rule_set.RuleSet.{RuleSet}
@@ -84,7 +85,7 @@ unfolding ranges_of
 ranges_small period range here small has = pieces_small period period.start (cuts_of period) range here small has
 
 -- ---- the lines of a zone
-abs_small : (save : ℤ) → unsigned_abs save ≤ 86_400 → IsShift save
+abs_small : (save : ℤ) → unsigned_abs save ≤ LONGEST_SHIFT → IsShift save
 abs_small (pos n) h = (omega (arith, ints), omega (arith, ints))
 abs_small (negsuc n) h = (omega (arith, ints), omega (arith, ints))
 
@@ -93,7 +94,7 @@ set_small sets place = by_get sets place (λ set there. rw there tt) (λ gone. r
 
 pub following_small : (sets : List RuleSet) (line_rules : LineRules) → IsTrue (is_fixed_save line_rules) → HasSmallSave (following_of sets line_rules)
 following_small sets rules.Plain small = tt
-following_small sets (rules.Fixed save daylight) small = abs_small save (leb-true (unsigned_abs save) 86_400 small)
+following_small sets (rules.Fixed save daylight) small = abs_small save (leb-true (unsigned_abs save) LONGEST_SHIFT small)
 following_small sets (rules.Set place) small = set_small sets place
 
 abbrev IsSmallPeriod : Period → Type 0

@@ -1,6 +1,6 @@
 -- The greatest number of rules that a line follows.
 use Rattle.std.proofs.Common.{◌≡◌, ℕ, ◌≤◌, ◌<◌, max, ◌⊎◌, inl, inr, ⊎_elim, refl, ap, ◌∙◌, sym, arith, List, [], ◌∷◌}
-use Rattle.tz_types.specs.Limit.{most_rules}
+use Rattle.tz_types.specs.declared.limit.TheConstants.{MOST_RULES}
 use Rattle.std.proofs.lemmas.Bool.{cases_lt}
 use Rattle.tz_specs.specs.Until.{Following, Nothing, Fixed, Rules}
 use Rattle.tz_specs.specs.Expansion.{Period}
@@ -37,11 +37,11 @@ followed_by_some (first ∷ later) =
     inr (first, inl refl, omega (arith, above)))
     (cases_lt (rules_followed first.following) (most_rules_followed later))
 
-following_bound : (following : Following) → rules_followed following ≤ most_rules
+following_bound : (following : Following) → rules_followed following ≤ MOST_RULES
 following_bound Nothing = omega arith
 following_bound (Fixed save daylight) = omega arith
 following_bound (Rules set) = set.few_enough
 
-pub followed_bound : (periods : List Period) → most_rules_followed periods ≤ most_rules
+pub followed_bound : (periods : List Period) → most_rules_followed periods ≤ MOST_RULES
 followed_bound [] = omega arith
 followed_bound (first ∷ later) = omega (arith, following_bound first.following, followed_bound later)

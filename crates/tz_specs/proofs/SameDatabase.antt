@@ -10,7 +10,7 @@ use Rattle.tz_types.specs.Amount.{IsShift}
 use Rattle.tz_types.specs.Format.{is_format}
 use Rattle.tz_types.specs.Saves.{is_fixed_save}
 use Rattle.tz_types.specs.Order.{ascends, name_before}
-use Rattle.tz_types.specs.Limit.{most_sets, most_zones, most_links}
+use Rattle.tz_types.specs.declared.limit.TheConstants.{MOST_SETS, MOST_ZONES, MOST_ZONE_LINES, MOST_LINKS}
 use Rattle.tz_types.specs.declared.rule_set.RuleSet.{RuleSet}
 use Rattle.tz_types.specs.declared.zone_line.LineRules.{LineRules}
 use Rattle.tz_types.specs.declared.zone_line.LineRules.TheVariants as line_rules
@@ -109,7 +109,13 @@ same_zone : (sets : List RuleSet) (a b : Zone) → IsTrue (ascends name_before (
 same_zone sets a b ascend first second h =
     let name : a.name ≡ b.name = ap (λ (it : WrittenZone). it.name) h in
     let lines : a.lines ≡ b.lines = same_lines sets a.lines b.lines ascend first second (ap (λ (it : WrittenZone). it.lines) h) in
-    λ i. record { name = name i; lines = lines i }
+    λ i.
+    record {
+      name = name i;
+      lines = lines i;
+      some_line = is_prop→PathP (λ j. 1 ≤ length (lines j)) (λ j. hlevel props) a.some_line b.some_line i;
+      few_lines = is_prop→PathP (λ j. length (lines j) ≤ MOST_ZONE_LINES) (λ j. hlevel props) a.few_lines b.few_lines i;
+    }
 
 -- all zones know the rule sets of their lines
 abbrev are_known : List RuleSet → List Zone → Bool
@@ -173,9 +179,9 @@ same_db a b version sets zones links =
       sets_ascend = is_prop→PathP (λ j. IsTrue (ascends name_before (map (λ set. set.name) (sets j)))) (λ j. hlevel props) a.sets_ascend b.sets_ascend i;
       zones_ascend = is_prop→PathP (λ j. IsTrue (ascends name_before (map (λ zone. zone.name) (zones j)))) (λ j. hlevel props) a.zones_ascend b.zones_ascend i;
       links_ascend = is_prop→PathP (λ j. IsTrue (ascends name_before (map (λ link. link.name) (links j)))) (λ j. hlevel props) a.links_ascend b.links_ascend i;
-      few_sets = is_prop→PathP (λ j. length (sets j) ≤ most_sets) (λ j. hlevel props) a.few_sets b.few_sets i;
-      few_zones = is_prop→PathP (λ j. length (zones j) ≤ most_zones) (λ j. hlevel props) a.few_zones b.few_zones i;
-      few_links = is_prop→PathP (λ j. length (links j) ≤ most_links) (λ j. hlevel props) a.few_links b.few_links i;
+      few_sets = is_prop→PathP (λ j. length (sets j) ≤ MOST_SETS) (λ j. hlevel props) a.few_sets b.few_sets i;
+      few_zones = is_prop→PathP (λ j. length (zones j) ≤ MOST_ZONES) (λ j. hlevel props) a.few_zones b.few_zones i;
+      few_links = is_prop→PathP (λ j. length (links j) ≤ MOST_LINKS) (λ j. hlevel props) a.few_links b.few_links i;
     }
 
 zones_in_order : (db : Db) → IsTrue (ascends name_before (map (λ it. it.name) (map (written_zone (set_names db.sets)) db.zones)))

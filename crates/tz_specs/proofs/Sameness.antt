@@ -6,7 +6,7 @@ use Rattle.tz_types.specs.Year.{IsWrittenYear, IsRuleYear}
 use Rattle.tz_types.specs.Amount.{IsTimeOfDay, IsShift}
 use Rattle.tz_types.specs.Calendar.{has_day, has_day_through}
 use Rattle.tz_types.specs.Order.{ascends}
-use Rattle.tz_types.specs.Limit.{most_rules}
+use Rattle.tz_types.specs.declared.limit.TheConstants.{MOST_RULES}
 use Rattle.tz_types.specs.declared.rule.Rule.{Rule}
 use Rattle.tz_types.specs.declared.rule_set.RuleSet.{RuleSet}
 use Rattle.tz_types.specs.declared.until.Until.{Until}
@@ -54,7 +54,7 @@ same_set a b h =
       name = name i;
       rules = rules i;
       in_line_order = is_prop→PathP (λ j. IsTrue (ascends nat_lt (map (λ rule. rule.line) (rules j)))) (λ j. hlevel props) a.in_line_order b.in_line_order i;
-      few_enough = is_prop→PathP (λ j. length (rules j) ≤ most_rules) (λ j. hlevel props) a.few_enough b.few_enough i;
+      few_enough = is_prop→PathP (λ j. length (rules j) ≤ MOST_RULES) (λ j. hlevel props) a.few_enough b.few_enough i;
     }
 
 pub same_sets : (ones others : List RuleSet) → map written_set ones ≡ map written_set others → ones ≡ others

@@ -3,7 +3,7 @@ use Rattle.std.specs.Prelude.{ℕ, ◌+◌, ◌==◌, nat_le, nat_lt, Bool, true
 use Rattle.std.specs.Option.{is_none}
 use Rattle.std.specs.List.{list_any, last_or}
 use Rattle.tz_types.specs.Order.{name_before}
-use Rattle.tz_types.specs.Limit.{most_rules, most_sets, most_zones, most_lines, most_links}
+use Rattle.tz_types.specs.declared.limit.TheConstants.{MOST_RULES, MOST_SETS, MOST_ZONES, MOST_ZONE_LINES, MOST_LINKS}
 use Rattle.tz_types.specs.declared.cause.Cause.{Cause}
 use Rattle.tz_types.specs.declared.cause.Cause.TheVariants as causes
 use Rattle.tz_types.specs.declared.fault.LineFault.{LineFault}
@@ -11,6 +11,7 @@ use Rattle.tz_specs.specs.Line.{lines_of, line_length}
 use Rattle.tz_specs.specs.Field.{fields_of}
 use Rattle.tz_specs.specs.Choice.{◌>>=◌}
 use Rattle.tz_specs.specs.Causes.{least_cause, unless_cause, fault_at}
+use Rattle.tz_specs.specs.LineCauses.{causes_with}
 use Rattle.tz_specs.specs.Value.{field_at, is_exactly, is_bad_name, is_long_name}
 use Rattle.tz_specs.specs.Written.{WrittenRule, WrittenSet, WrittenLine, WrittenZone, WrittenLink, Record, RuleRecord, ZoneRecord, Continuation, LinkRecord}
 use Rattle.tz_specs.specs.Record.{Kind, RuleLine, ZoneLine, LinkLine, ContinuationLine, kind_of_record, has_count, rule_causes, line_causes, link_causes, record_of}
@@ -101,23 +102,23 @@ wants_line lines = wants (last_or None lines)
 abbrev pub waits : Contents → Bool
 waits contents = contents.begun && wants_line (last_lines contents.zones)
 
--- The record would be one more than 512 rules of its set, 1,024 sets, 1,024 zones, 255 lines of its zone, or 4,096 links.
+-- The record would be one more than there may be rules of its set, sets, zones, lines of its zone, or links.
 
 abbrev pub is_full_set : List WrittenSet → Option WrittenSet → Bool
-is_full_set sets None = nat_le most_sets (length sets)
-is_full_set sets (Some set) = nat_le most_rules (length set.rules)
+is_full_set sets None = nat_le MOST_SETS (length sets)
+is_full_set sets (Some set) = nat_le MOST_RULES (length set.rules)
 
 abbrev pub exceeds_rules : List ℕ → Contents → Bool
 exceeds_rules name contents = is_full_set contents.sets (find (is_set_named name) contents.sets)
 
 abbrev pub exceeds_zones : Contents → Bool
-exceeds_zones contents = nat_le most_zones (length contents.zones)
+exceeds_zones contents = nat_le MOST_ZONES (length contents.zones)
 
 abbrev pub exceeds_lines : Contents → Bool
-exceeds_lines contents = nat_le most_lines (length (last_lines contents.zones))
+exceeds_lines contents = nat_le MOST_ZONE_LINES (length (last_lines contents.zones))
 
 abbrev pub exceeds_links : Contents → Bool
-exceeds_links contents = nat_le most_links (length contents.links)
+exceeds_links contents = nat_le MOST_LINKS (length contents.links)
 
 -- the causes of a record by its kind and by what stands before it
 abbrev pub record_causes : Contents → Kind → List (List ℕ) → List (Cause × Bool)
@@ -147,10 +148,7 @@ fields_or_none (Some fields) = fields
 -- the causes of a line, by its number and by what stands before it
 abbrev pub causes_of_line : Contents → ℕ → List ℕ → List (Cause × Bool)
 causes_of_line contents number line =
-    (causes.LongLine, nat_lt 2_048 (line_length line))
-    ∷ (causes.Nul, list_any (λ byte. byte == 0) line)
-    ∷ (causes.OpenQuote, is_none (fields_of line))
-    ∷ (field_causes contents (fields_or_none (fields_of line)) ++ (causes.Limit, nat_lt 100_000 number) ∷ [])
+    causes_with number line (field_causes contents (fields_or_none (fields_of line)))
 
 -- what fields say; no fields say nothing
 abbrev pub record_of_fields : Contents → ℕ → List (List ℕ) → Option Record

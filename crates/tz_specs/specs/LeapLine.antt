@@ -7,7 +7,7 @@ use Rattle.std.specs.Option.{is_none}
 use Rattle.std.specs.List.{list_any}
 use Rattle.jiff_core.specs.Calendar.{days_from_civil, days_in_month}
 use Rattle.tz_types.specs.Calendar.{month_number, is_day_up_to}
-use Rattle.tz_types.specs.Limit.{most_leaps}
+use Rattle.tz_types.specs.declared.limit.TheConstants.{MOST_LEAPS}
 use Rattle.tz_types.specs.declared.calendar.Month.{Month}
 use Rattle.tz_types.specs.declared.cause.Cause.{Cause}
 use Rattle.tz_types.specs.declared.cause.Cause.TheVariants as causes
@@ -20,6 +20,7 @@ use Rattle.tz_specs.specs.Number.{number_of}
 use Rattle.tz_specs.specs.Day.{day_number_of}
 use Rattle.tz_specs.specs.Word.{named_entry}
 use Rattle.tz_specs.specs.Causes.{least_cause, unless_cause}
+use Rattle.tz_specs.specs.LineCauses.{causes_with}
 use Rattle.tz_specs.specs.Value.{field_at, is_exactly, month_named, rule_year_of}
 use Rattle.tz_specs.specs.Contents.{fields_or_none}
 
@@ -106,7 +107,7 @@ entry_causes earlier fields =
     ++ (causes.Time, not (is_leap_time (correction_of (field_at 5 fields)) (field_at 4 fields)))
     ∷ (causes.Corr, is_none (correction_of (field_at 5 fields)))
     ∷ (causes.Rolling, not (is_stationary (field_at 6 fields)))
-    ∷ (causes.Limit, nat_le most_leaps earlier)
+    ∷ (causes.Limit, nat_le MOST_LEAPS earlier)
     ∷ []
 
 -- `HH:MM:SS`, two digits each, in seconds from midnight
@@ -160,10 +161,7 @@ leap_field_causes earlier (keyword ∷ fields) =
 -- the causes of a line, by its number and by how many leap seconds stand before it
 abbrev pub leap_line_causes : ℕ → ℕ → List ℕ → List (Cause × Bool)
 leap_line_causes number earlier line =
-    (causes.LongLine, nat_lt 2_048 (line_length line))
-    ∷ (causes.Nul, list_any (λ byte. byte == 0) line)
-    ∷ (causes.OpenQuote, is_none (fields_of line))
-    ∷ (leap_field_causes earlier (fields_or_none (fields_of line)) ++ (causes.Limit, nat_lt 100_000 number) ∷ [])
+    causes_with number line (leap_field_causes earlier (fields_or_none (fields_of line)))
 
 -- what fields say; no fields say nothing
 unfoldable pub leap_record_of_fields : List (List ℕ) → Option LeapRecord

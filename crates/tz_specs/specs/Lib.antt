@@ -22,6 +22,7 @@ pub mod Shown
 pub mod Effect
 pub mod Around
 pub mod Causes
+pub mod LineCauses
 pub mod Written
 pub mod Value
 pub mod CivilWord

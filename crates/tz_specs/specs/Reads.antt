@@ -2,6 +2,7 @@
 use Rattle.std.specs.Prelude.{◌≡◌, ℕ, suc, ◌-◌, nat_le, nat_eq, Bool, ◌&&◌, ◌⊎◌, if◌then◌else◌, List, [], ◌∷◌, length, map, drop, codes, position, Option, Some, None, Ok, Err, IsTrue}
 use Rattle.std.specs.List.{list_all, starts_with}
 use Rattle.std.specs.List.Sorted.{IsPermutation}
+use Rattle.tz_types.specs.declared.limit.TheConstants.{LONGEST_VERSION}
 use Rattle.tz_types.specs.Text.{is_printable}
 use Rattle.tz_types.specs.declared.fault.Fault.{Fault}
 use Rattle.tz_types.specs.declared.fault.LineFault.{LineFault}
@@ -25,9 +26,9 @@ without_white_end (byte ∷ bytes) =
     let later = without_white_end bytes in
     if is_white byte && is_empty later then [] else byte ∷ later
 
--- 1 to 64 visible bytes
+-- one to so many visible bytes
 abbrev pub is_version : List ℕ → Bool
-is_version bytes = nat_le 1 (length bytes) && nat_le (length bytes) 64 && list_all is_printable bytes
+is_version bytes = nat_le 1 (length bytes) && nat_le (length bytes) LONGEST_VERSION && list_all is_printable bytes
 
 -- the version that a first line `# version VERSION` names
 abbrev pub version_of_line : List ℕ → List ℕ

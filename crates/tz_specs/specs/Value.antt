@@ -3,6 +3,8 @@ use Rattle.std.specs.Prelude.{ℕ, ◌==◌, nat_le, nat_lt, nat_eq, Bool, false
 use Rattle.std.specs.List.{list_all, list_any}
 use Rattle.std.specs.Ordering.{int_eq}
 use Rattle.std.specs.Cmp.Lexicographic.{pointwise}
+use Rattle.tz_types.specs.Amount.{is_shift}
+use Rattle.tz_types.specs.declared.limit.TheConstants.{LONGEST_NAME}
 use Rattle.tz_types.specs.Text.{is_printable}
 use Rattle.tz_types.specs.Calendar.{has_day, has_day_through}
 use Rattle.tz_types.specs.declared.calendar.Month.{Month}
@@ -98,10 +100,6 @@ kind_of suffix =
 abbrev pub time_of : List ℕ → Option (ℤ × AtKind)
 time_of field = option_map (λ amount. (amount.0, kind_of amount.1)) (amount_of (codes "wsugz") field)
 
--- at most a day, with either sign
-abbrev pub is_shift : ℤ → Bool
-is_shift seconds = nat_le (unsigned_abs seconds) 86_400
-
 -- a standard offset
 abbrev pub stdoff_of : List ℕ → Option ℤ
 stdoff_of field = amount_of [] field >>= λ amount. only_if (is_shift amount.0) amount.0
@@ -118,9 +116,9 @@ save_of field = amount_of (codes "sd") field >>= λ amount. only_if (is_shift am
 abbrev pub is_bad_name : List ℕ → Bool
 is_bad_name field = is_empty field || not (list_all is_printable field)
 
--- a name has at most 255 bytes
+-- a name has more bytes than it may have
 abbrev pub is_long_name : List ℕ → Bool
-is_long_name field = nat_lt 255 (length field)
+is_long_name field = nat_lt LONGEST_NAME (length field)
 
 -- an amount starts with a digit, `-` or `+`, and the name of a rule doesn't
 abbrev pub starts_amount : List ℕ → Bool

@@ -1,7 +1,7 @@
 //! Laws: the greatest number of rules that a line of a zone follows.
 ghost use Rattle.std.specs.Prelude.{◌≡◌, ◌≤◌, ◌⊎◌, ℕ, List};
 ghost use Rattle.std.specs.List.{All, Contains};
-ghost use Rattle.tz_types.specs.Limit.{most_rules};
+ghost use Rattle.tz_types.specs.declared.limit.TheConstants.{MOST_RULES};
 ghost use Rattle.tz_specs.specs.Expansion.{Period};
 ghost use Rattle.tz_specs.specs.RulesFollowed.{rules_followed, most_rules_followed};
 
@@ -10,5 +10,5 @@ ghost use Rattle.tz_specs.specs.RulesFollowed.{rules_followed, most_rules_follow
 pub fn most_rules_followed_is_the_greatest()
     ensures each { (periods : List Period) (period : Period) → Contains periods period → rules_followed period.following ≤ most_rules_followed periods }
     ensures some { (periods : List Period) → (most_rules_followed periods ≡ 0) ⊎ ((period : Period) × Contains periods period × (rules_followed period.following ≡ most_rules_followed periods)) }
-    ensures bound { (periods : List Period) → most_rules_followed periods ≤ most_rules }
+    ensures bound { (periods : List Period) → most_rules_followed periods ≤ MOST_RULES }
 {}

@@ -4,7 +4,7 @@ use Rattle.std.specs.List.{list_all}
 use Rattle.std.proofs.lemmas.Bool.{and_parts, and_from}
 use Rattle.std.proofs.lemmas.Bool.Decides.{nat_tests}
 use Rattle.std.proofs.lemmas.List.Folds.{list_all-append}
-use Rattle.tz_types.specs.Limit.{most_lines}
+use Rattle.tz_types.specs.declared.limit.TheConstants.{MOST_ZONE_LINES}
 use Rattle.tz_types.specs.declared.cause.Cause.{Cause}
 use Rattle.tz_types.specs.declared.fault.LineFault.{LineFault}
 use Rattle.tz_specs.specs.Line.{lines_of}
@@ -17,7 +17,7 @@ use Rattle.tz_lines.proofs.GatheredLines.{given_by, after_line, after_all, files
 
 -- each line but the last has an UNTIL, and there is a line, and at most 255
 abbrev pub is_whole : WrittenZone → Bool
-is_whole zone = goes_on zone.lines && nat_le (length zone.lines) most_lines
+is_whole zone = goes_on zone.lines && nat_le (length zone.lines) MOST_ZONE_LINES
 
 abbrev pub are_whole : List WrittenZone → Bool
 are_whole zones = list_all is_whole zones
@@ -29,16 +29,16 @@ goes_on_more (first ∷ next ∷ lines) line on wants =
     let both = and_parts (is_some first.until) (goes_on (next ∷ lines)) on in
     and_from (is_some first.until) (goes_on ((next ∷ lines) ++ line ∷ [])) both.0 (goes_on_more (next ∷ lines) line both.1 wants)
 
-one_more : (count more : ℕ) → more ≡ count + 1 → nat_le most_lines count ≡ false → IsTrue (nat_le more most_lines)
+one_more : (count more : ℕ) → more ≡ count + 1 → nat_le MOST_ZONE_LINES count ≡ false → IsTrue (nat_le more MOST_ZONE_LINES)
 one_more count more is room = grind (arith, nat_tests)
 
-whole_more : (zone : WrittenZone) (line : WrittenLine) → IsTrue (is_whole zone) → IsTrue (wants_line zone.lines) → nat_le most_lines (length zone.lines) ≡ false → IsTrue (is_whole (record { name = zone.name; lines = zone.lines ++ line ∷ [] }))
+whole_more : (zone : WrittenZone) (line : WrittenLine) → IsTrue (is_whole zone) → IsTrue (wants_line zone.lines) → nat_le MOST_ZONE_LINES (length zone.lines) ≡ false → IsTrue (is_whole (record { name = zone.name; lines = zone.lines ++ line ∷ [] }))
 whole_more zone line whole wants room =
-    let both = and_parts (goes_on zone.lines) (nat_le (length zone.lines) most_lines) whole in
+    let both = and_parts (goes_on zone.lines) (nat_le (length zone.lines) MOST_ZONE_LINES) whole in
     let count = length-append zone.lines (line ∷ []) in
-    and_from (goes_on (zone.lines ++ line ∷ [])) (nat_le (length (zone.lines ++ line ∷ [])) most_lines) (goes_on_more zone.lines line both.0 wants) (one_more (length zone.lines) (length (zone.lines ++ line ∷ [])) count room)
+    and_from (goes_on (zone.lines ++ line ∷ [])) (nat_le (length (zone.lines ++ line ∷ [])) MOST_ZONE_LINES) (goes_on_more zone.lines line both.0 wants) (one_more (length zone.lines) (length (zone.lines ++ line ∷ [])) count room)
 
-with_line_whole : (zones : List WrittenZone) (line : WrittenLine) → IsTrue (are_whole zones) → IsTrue (wants_line (last_lines zones)) → nat_le most_lines (length (last_lines zones)) ≡ false → IsTrue (are_whole (with_line line zones))
+with_line_whole : (zones : List WrittenZone) (line : WrittenLine) → IsTrue (are_whole zones) → IsTrue (wants_line (last_lines zones)) → nat_le MOST_ZONE_LINES (length (last_lines zones)) ≡ false → IsTrue (are_whole (with_line line zones))
 with_line_whole [] line whole wants room = refl
 with_line_whole (zone ∷ []) line whole wants room =
     let both = and_parts (is_whole zone) true whole in

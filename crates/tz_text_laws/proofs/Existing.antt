@@ -7,7 +7,7 @@ use Rattle.std.proofs.lemmas.Bool.Decides.{nat_tests}
 use Rattle.std.proofs.lemmas.List.Elements.{Contains-append_left, Contains-append_right}
 use Rattle.std.proofs.lemmas.List.Sorted.{IsPermutation-map, length_permutation}
 use Rattle.tz_types.specs.Order.{ascends, name_before}
-use Rattle.tz_types.specs.Limit.{most_zones, most_links}
+use Rattle.tz_types.specs.declared.limit.TheConstants.{MOST_ZONES, MOST_LINKS}
 use Rattle.tz_types.specs.declared.fault.Fault.{Fault}
 use Rattle.tz_types.specs.declared.fault.LineFault.{LineFault}
 use Rattle.tz_types.specs.declared.source.Source.{Source}
@@ -63,7 +63,7 @@ record MadeZones (sets : List RuleSet) (contents : Contents) : Type 0 where
   zones : List Zone
   same : IsPermutation contents.zones (map (written_zone (set_names sets)) zones)
   ascend : IsTrue (ascends name_before (map (λ zone. zone.name) zones))
-  few : length zones ≤ most_zones
+  few : length zones ≤ MOST_ZONES
   known : Each (knows sets) zones
 
 made_zones : (last : ℕ) (sets : List RuleSet) (contents : Contents) → GoodContents last contents → NoFaults sets contents → MadeZones sets contents
@@ -84,14 +84,14 @@ made_zones last sets contents good none =
     Contains-append_left (filter_map zone_name contents.zones) (map (λ (link : WrittenLink). (link.name, link.line)) contents.links) (entry_of (written zone)) first in
     let distinct = distinct_from name_of (λ zone. begins (written zone)) made.0 (rw places good.zones_rise) (λ one other first second. no_repeat (names_given contents) (entry_of (written one)) (entry_of (written other)) none.names (among one first) (among other second)) in
     let count : length zones ≡ length contents.zones = length_permutation made.0 zones order ∙ sym (map_length written made.0) ∙ ap length made.2 in
-    let few = at_most (length zones) (length contents.zones) most_zones count good.few_zones in
+    let few = at_most (length zones) (length contents.zones) MOST_ZONES count good.few_zones in
     record { zones = zones; same = same; ascend = sorted_ascends name_of made.0 distinct; few = few; known = each_sorted (knows sets) name_of made.0 made.1 }
 
 record MadeLinks (contents : Contents) (zones : List Zone) : Type 0 where
   links : List Link
   same : IsPermutation contents.links (map written_link links)
   ascend : IsTrue (ascends name_before (map (λ link. link.name) links))
-  few : length links ≤ most_links
+  few : length links ≤ MOST_LINKS
   lead : Each (leads_there contents zones) links
 
 made_links : (last : ℕ) (sets : List RuleSet) (contents : Contents) (zones : List Zone) → GoodContents last contents → NoFaults sets contents → IsPermutation contents.zones (map (written_zone (set_names sets)) zones) → MadeLinks contents zones
@@ -111,7 +111,7 @@ made_links last sets contents zones good none there =
     Contains-append_right (filter_map zone_name contents.zones) (map (λ (link : WrittenLink). (link.name, link.line)) contents.links) (link.name, link.line) entry in
     let distinct = distinct_from link_name (λ link. link.line) made.0 (rw places good.links_rise) (λ one other first second. no_repeat (names_given contents) (one.name, one.line) (other.name, other.line) none.names (among one first) (among other second)) in
     let count : length links ≡ length contents.links = length_permutation made.0 links order ∙ sym (map_length written_link made.0) ∙ ap length made.2 in
-    let few = at_most (length links) (length contents.links) most_links count good.few_links in
+    let few = at_most (length links) (length contents.links) MOST_LINKS count good.few_links in
     record { links = links; same = same; ascend = sorted_ascends link_name made.0 distinct; few = few; lead = each_sorted (leads_there contents zones) link_name made.0 made.1 }
 
 -- a source without faults is read as a database

@@ -18,7 +18,7 @@ use Rattle.tz_specs.specs.Number.{year_of}
 use Rattle.tz_specs.specs.Day.{on_of, or_else}
 use Rattle.tz_specs.specs.Word.{named_entry}
 use Rattle.tz_types.specs.declared.format.Format.{Format}
-use Rattle.tz_specs.specs.Value.{field_or, field_at, month_named, rule_year_of, last_year_table, last_year_named, years_of, fall, rule_day_of, until_day_of, kind_of, time_of, is_shift, stdoff_of, is_daylight, save_of, is_dash, names_set, rules_of, letters_of, format_of}
+use Rattle.tz_specs.specs.Value.{field_or, field_at, month_named, rule_year_of, last_year_table, last_year_named, years_of, fall, rule_day_of, until_day_of, kind_of, time_of, stdoff_of, is_daylight, save_of, is_dash, names_set, rules_of, letters_of, format_of}
 use Rattle.tz_specs.specs.Written.{WrittenRule, WrittenRules, WrittenUntil, WrittenLine, NoRules, FixedSave, RulesNamed}
 use Rattle.tz_specs.specs.Record.{rule_day, rule_of, has_until, until_month, until_time, until_day, written_end, until_of, line_of}
 use Rattle.tz_specs.proofs.Tests.{lt-int_lt}

@@ -5,7 +5,7 @@ use Rattle.std.specs.List.{list_any}
 use Rattle.std.proofs.lemmas.Bool.{cases_Bool}
 use Rattle.std.proofs.lemmas.Bool.Decides.{nat_tests}
 use Rattle.tz_types.specs.Order.{ascends, ascends_after, name_before}
-use Rattle.tz_types.specs.Limit.{most_rules, most_sets, most_zones, most_links}
+use Rattle.tz_types.specs.declared.limit.TheConstants.{MOST_RULES, MOST_SETS, MOST_ZONES, MOST_LINKS}
 use Rattle.tz_types.specs.declared.cause.Cause.{Cause}
 use Rattle.tz_types.specs.declared.cause.Cause.TheVariants as causes
 use Rattle.tz_types.specs.declared.fault.LineFault.{LineFault}
@@ -28,7 +28,7 @@ GoodRules number (rule ∷ rules) = GoodRule rule × (rule.line < number) × Goo
 pub record GoodSet (number : ℕ) (set : WrittenSet) : Type 0 where
   pub rules : GoodRules number set.rules
   pub rise : IsTrue (ascends nat_lt (map (λ rule. rule.line) set.rules))
-  pub few : length set.rules ≤ most_rules
+  pub few : length set.rules ≤ MOST_RULES
 
 abbrev pub GoodSets : ℕ → List WrittenSet → Type 0
 GoodSets number [] = Unit {0}
@@ -79,13 +79,13 @@ GoodLinks number (link ∷ links) = (link.line < number) × GoodLinks number lin
 pub record GoodContents (number : ℕ) (contents : Contents) : Type 0 where
   pub sets : GoodSets number contents.sets
   pub sets_ascend : IsTrue (ascends name_before (map (λ set. set.name) contents.sets))
-  pub few_sets : length contents.sets ≤ most_sets
+  pub few_sets : length contents.sets ≤ MOST_SETS
   pub zones : GoodZones number contents.zones
   pub zones_rise : IsTrue (ascends nat_lt (map begins contents.zones))
-  pub few_zones : length contents.zones ≤ most_zones
+  pub few_zones : length contents.zones ≤ MOST_ZONES
   pub links : GoodLinks number contents.links
   pub links_rise : IsTrue (ascends nat_lt (map (λ link. link.line) contents.links))
-  pub few_links : length contents.links ≤ most_links
+  pub few_links : length contents.links ≤ MOST_LINKS
 
 -- the next line comes later
 
@@ -166,7 +166,7 @@ rules_with number [] rule h good is = (good, omega (arith, is), tt)
 rules_with number (first ∷ rules) rule h good is =
     let before = h.1 in (h.0, omega (arith, before), rules_with number rules rule h.2 good is)
 
-set_with : (number : ℕ) (set : WrittenSet) (name : List ℕ) (rule : WrittenRule) → GoodSet number set → GoodRule rule → rule.line ≡ number → length set.rules < most_rules → GoodSet (number + 1) (record { name = name; rules = set.rules ++ rule ∷ [] })
+set_with : (number : ℕ) (set : WrittenSet) (name : List ℕ) (rule : WrittenRule) → GoodSet number set → GoodRule rule → rule.line ≡ number → length set.rules < MOST_RULES → GoodSet (number + 1) (record { name = name; rules = set.rules ++ rule ∷ [] })
 set_with number set name rule h good is room =
     let rise = rise_on (map (λ rule. rule.line) set.rules) number (rules_below number set.rules h.rules) h.rise in
     let lines : map (λ (it : WrittenRule). it.line) (set.rules ++ rule ∷ []) ≡ map (λ (it : WrittenRule). it.line) set.rules ++ number ∷ [] =
@@ -219,10 +219,10 @@ not_found x name (set ∷ sets) h before =
 
 -- there is room for one more rule of a set, or for one more set
 abbrev Room : ℕ → Option WrittenSet → Type 0
-Room sets None = sets < most_sets
-Room sets (Some set) = (sets ≤ most_sets) × (length set.rules < most_rules)
+Room sets None = sets < MOST_SETS
+Room sets (Some set) = (sets ≤ MOST_SETS) × (length set.rules < MOST_RULES)
 
-rule_room : (set : WrittenSet) (sets : List WrittenSet) (name : List ℕ) → is_set_named name set ≡ true → (count : ℕ) → Room count (find (is_set_named name) (set ∷ sets)) → length set.rules < most_rules
+rule_room : (set : WrittenSet) (sets : List WrittenSet) (name : List ℕ) → is_set_named name set ≡ true → (count : ℕ) → Room count (find (is_set_named name) (set ∷ sets)) → length set.rules < MOST_RULES
 rule_room set sets name named count room = let here : Room count (Some set) = rw named at room in here.1
 
 room_later : (set : WrittenSet) (sets : List WrittenSet) (name : List ℕ) → is_set_named name set ≡ false → (count : ℕ) → Room count (find (is_set_named name) (set ∷ sets)) → Room count (find (is_set_named name) sets)
@@ -267,7 +267,7 @@ no_more name rule (set ∷ sets) found h there =
     (cases_Bool (name_before name set.name)))
     (cases_Bool (is_set_named name set))
 
-few_with : (name : List ℕ) (rule : WrittenRule) (sets : List WrittenSet) (found : Option WrittenSet) → IsTrue (ascends name_before (map (λ set. set.name) sets)) → find (is_set_named name) sets ≡ found → Room (length sets) found → length (with_rule name rule sets) ≤ most_sets
+few_with : (name : List ℕ) (rule : WrittenRule) (sets : List WrittenSet) (found : Option WrittenSet) → IsTrue (ascends name_before (map (λ set. set.name) sets)) → find (is_set_named name) sets ≡ found → Room (length sets) found → length (with_rule name rule sets) ≤ MOST_SETS
 few_with name rule sets None h is room = let more = at_most_one_more name rule sets in omega (arith, more, room)
 few_with name rule sets (Some found) h is room =
     let same = no_more name rule sets found h is in
@@ -330,9 +330,9 @@ links_with number (first ∷ links) link h is = let before = h.0 in (omega (arit
 abbrev GoodRecord : ℕ → Contents → Record → Type 0
 GoodRecord number contents (RuleRecord name rule) =
     GoodRule rule × (rule.line ≡ number) × Room (length contents.sets) (find (is_set_named name) contents.sets)
-GoodRecord number contents (ZoneRecord name line) = GoodLine line × (line.line ≡ number) × (length contents.zones < most_zones)
+GoodRecord number contents (ZoneRecord name line) = GoodLine line × (line.line ≡ number) × (length contents.zones < MOST_ZONES)
 GoodRecord number contents (Continuation line) = GoodLine line × (line.line ≡ number)
-GoodRecord number contents (LinkRecord link) = (link.line ≡ number) × (length contents.links < most_links)
+GoodRecord number contents (LinkRecord link) = (link.line ≡ number) × (length contents.links < MOST_LINKS)
 
 good_with : (number : ℕ) (contents : Contents) (entry : Record) → GoodContents number contents → GoodRecord number contents entry → GoodContents (number + 1) (with_record entry contents)
 good_with number contents (RuleRecord name rule) h good =
@@ -429,9 +429,9 @@ neither false b h = (refl, h)
 below_limit : (limit count : ℕ) → nat_le limit count ≡ false → count < limit
 below_limit limit count h = grind (arith, nat_tests, h)
 
-room_of : (contents : Contents) (found : Option WrittenSet) → length contents.sets ≤ most_sets → is_full_set contents.sets found ≡ false → Room (length contents.sets) found
-room_of contents None few h = below_limit most_sets (length contents.sets) h
-room_of contents (Some set) few h = (few, below_limit most_rules (length set.rules) h)
+room_of : (contents : Contents) (found : Option WrittenSet) → length contents.sets ≤ MOST_SETS → is_full_set contents.sets found ≡ false → Room (length contents.sets) found
+room_of contents None few h = below_limit MOST_SETS (length contents.sets) h
+room_of contents (Some set) few h = (few, below_limit MOST_RULES (length set.rules) h)
 
 rule_flags : (too_many : Bool) (fields : List (List ℕ)) → least_cause (rule_causes too_many fields) ≡ None → (fall (years_of (field_at 2 fields) (field_at 3 fields)) ≡ false) × (too_many ≡ false)
 unfolding rule_causes
@@ -452,7 +452,7 @@ link_flags too_many fields h =
     let limit = none_holds (link_causes too_many fields) h 1 (causes.Limit, is_long_name (field_at 1 fields) || is_long_name (field_at 2 fields) || too_many) refl in
     (neither (is_long_name (field_at 1 fields) || is_long_name (field_at 2 fields)) too_many limit).1
 
-kind_good : (number : ℕ) (contents : Contents) (kind : Kind) (fields : List (List ℕ)) (entry : Record) → length contents.sets ≤ most_sets → least_cause (record_causes contents kind fields) ≡ None → record_of kind number fields ≡ Some entry → GoodRecord number contents entry
+kind_good : (number : ℕ) (contents : Contents) (kind : Kind) (fields : List (List ℕ)) (entry : Record) → length contents.sets ≤ MOST_SETS → least_cause (record_causes contents kind fields) ≡ None → record_of kind number fields ≡ Some entry → GoodRecord number contents entry
 kind_good number contents RuleLine fields entry few none is =
     let rule = map_some (RuleRecord (field_at 1 fields)) (rule_of number fields) entry is in
     let flags = rule_flags (exceeds_rules (field_at 1 fields) contents) fields none in
@@ -463,18 +463,18 @@ kind_good number contents ZoneLine fields entry few none is =
     let flags = line_flags (is_bad_name (field_at 1 fields)) (is_long_name (field_at 1 fields) || exceeds_zones contents) (drop 2 fields) none in
     let good = line_good number (drop 2 fields) line.0 line.1 flags.0 in
     let room = (neither (is_long_name (field_at 1 fields)) (exceeds_zones contents) flags.1).1 in
-    subst (GoodRecord number contents) line.2 (good.0, good.1, below_limit most_zones (length contents.zones) room)
+    subst (GoodRecord number contents) line.2 (good.0, good.1, below_limit MOST_ZONES (length contents.zones) room)
 kind_good number contents LinkLine fields entry few none is =
     let same = some_same (LinkRecord (link_of number fields)) entry is in
     let room = link_flags (exceeds_links contents) fields none in
-    subst (GoodRecord number contents) same (refl, below_limit most_links (length contents.links) room)
+    subst (GoodRecord number contents) same (refl, below_limit MOST_LINKS (length contents.links) room)
 kind_good number contents ContinuationLine fields entry few none is =
     let line = map_some Continuation (line_of number fields) entry is in
     let flags = line_flags false (exceeds_lines contents) fields none in
     let good = line_good number fields line.0 line.1 flags.0 in
     subst (GoodRecord number contents) line.2 (good.0, good.1)
 
-fields_good : (number : ℕ) (contents : Contents) (fields : List (List ℕ)) (entry : Record) → length contents.sets ≤ most_sets → least_cause (field_causes contents fields) ≡ None → record_of_fields contents number fields ≡ Some entry → GoodRecord number contents entry
+fields_good : (number : ℕ) (contents : Contents) (fields : List (List ℕ)) (entry : Record) → length contents.sets ≤ MOST_SETS → least_cause (field_causes contents fields) ≡ None → record_of_fields contents number fields ≡ Some entry → GoodRecord number contents entry
 fields_good number contents [] entry few none is = absurd (cc)
 fields_good number contents (field ∷ fields) entry few none is =
     let kind = bind_some (kind_of_record (waits contents) (field ∷ fields)) (λ kind. record_of kind number (field ∷ fields)) entry is in

@@ -5,7 +5,7 @@ use Rattle.std.proofs.lemmas.Bool.{cases_Bool, and_parts, and_from}
 use Rattle.std.proofs.lemmas.Bool.Decides.{nat_tests}
 use Rattle.std.proofs.lemmas.List.{length-map}
 use Rattle.tz_types.specs.Text.{is_printable, IsText}
-use Rattle.tz_types.specs.Limit.{most_lines}
+use Rattle.tz_types.specs.declared.limit.TheConstants.{MOST_ZONE_LINES}
 use Rattle.tz_types.specs.declared.zone.Zone.{Zone}
 use Rattle.tz_types.specs.declared.source.Source.{Source}
 use Rattle.tz_types.specs.declared.database.Db.{Db}
@@ -67,11 +67,11 @@ some_line (line ∷ lines) on = omega arith
 lines_within : (names : List (List ℕ)) (zone : Zone) → IsTrue (is_whole (written_zone names zone)) → IsTrue (has_lines zone)
 lines_within names zone whole =
     let written = map (written_line names) zone.lines in
-    let both = and_parts (goes_on written) (nat_le (length written) most_lines) whole in
+    let both = and_parts (goes_on written) (nat_le (length written) MOST_ZONE_LINES) whole in
     let count : length written ≡ length zone.lines = length-map zone.lines (written_line names) in
     let low = some_line written both.0 in
     let few = both.1 in
-    and_from (nat_le 1 (length zone.lines)) (nat_le (length zone.lines) most_lines) (grind (arith, nat_tests, count, low)) (rw (← count) few)
+    and_from (nat_le 1 (length zone.lines)) (nat_le (length zone.lines) MOST_ZONE_LINES) (grind (arith, nat_tests, count, low)) (rw (← count) few)
 
 all_within : (names : List (List ℕ)) (zones : List Zone) → IsTrue (are_whole (map (written_zone names) zones)) → IsTrue (list_all has_lines zones)
 all_within names [] whole = refl

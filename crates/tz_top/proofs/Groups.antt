@@ -3,7 +3,7 @@ use Rattle.std.proofs.Common.{◌≡◌, ℕ, ◌≤◌, nat_lt, Bool, true, fal
 use Rattle.std.specs.List.{slice_index_or}
 use Rattle.std.proofs.lemmas.Bool.{true≢false, lt-ltb, le-ltb}
 use Rattle.std.proofs.lemmas.List.{length-append}
-use Rattle.tz_types.specs.Limit.{most_bytes}
+use Rattle.tz_types.specs.declared.limit.TheConstants.{MOST_BYTES}
 use Rattle.tz_types.specs.Source.{bytes_together}
 use Rattle.tz_cli.specs.Outcome.{FileContents, MayReadAll, Failed, ReadsTooMuch}
 use Rattle.tz_cli.specs.Refusal.{RefusesContents}
@@ -14,18 +14,18 @@ use Rattle.tz_top.specs.Groups.{HoldsGroups, MayReadGroups, is_too_large, ReadsG
 use Rattle.tz_top.specs.Refusal.{RefusesGroups}
 
 -- few bytes are not too many
-pub few_enough : (those : List (List ℕ)) → bytes_together those ≤ most_bytes → nat_lt most_bytes (bytes_together those) ≡ false
-few_enough those few = le-ltb most_bytes (bytes_together those) few
+pub few_enough : (those : List (List ℕ)) → bytes_together those ≤ MOST_BYTES → nat_lt MOST_BYTES (bytes_together those) ≡ false
+few_enough those few = le-ltb MOST_BYTES (bytes_together those) few
 
 -- one more group in front
-pub few_before : (those : List (List ℕ)) (contents : List (List (List ℕ))) → bytes_together those ≤ most_bytes → is_too_large contents ≡ false → is_too_large (those ∷ contents) ≡ false
+pub few_before : (those : List (List ℕ)) (contents : List (List (List ℕ))) → bytes_together those ≤ MOST_BYTES → is_too_large contents ≡ false → is_too_large (those ∷ contents) ≡ false
 few_before those contents few others = rw (few_enough those few) others
 
 -- one more group at the end
-pub few_after : (contents : List (List (List ℕ))) (those : List (List ℕ)) → is_too_large contents ≡ false → bytes_together those ≤ most_bytes → is_too_large (contents ++ those ∷ []) ≡ false
+pub few_after : (contents : List (List (List ℕ))) (those : List (List ℕ)) → is_too_large contents ≡ false → bytes_together those ≤ MOST_BYTES → is_too_large (contents ++ those ∷ []) ≡ false
 few_after [] those few more = rw (few_enough those more) refl
 few_after (first ∷ contents) those few more =
-    let parts = neither (nat_lt most_bytes (bytes_together first)) (is_too_large contents) few in
+    let parts = neither (nat_lt MOST_BYTES (bytes_together first)) (is_too_large contents) few in
     rw parts.0 (few_after contents those parts.1 more)
   where
     neither : (a b : Bool) → (a || b) ≡ false → (a ≡ false) × (b ≡ false)
@@ -57,7 +57,7 @@ group_refused told groups first later contents names failed refusals.TooLarge ar
 group_refused told groups first later contents names failed refusal are read few refused = absurd refused
 
 -- the same with one more group in front, which was read
-in_front : (told : Option FileContents) (groups : List (List (List ℕ))) (group names those : List (List ℕ)) → MayReadAll told names those → bytes_together those ≤ most_bytes → ReadsGroupsUpTo told groups group → ReadsGroupsUpTo told (names ∷ groups) group
+in_front : (told : Option FileContents) (groups : List (List (List ℕ))) (group names those : List (List ℕ)) → MayReadAll told names those → bytes_together those ≤ MOST_BYTES → ReadsGroupsUpTo told groups group → ReadsGroupsUpTo told (names ∷ groups) group
 in_front told groups group names those read few up =
     record {
       first = names ∷ up.first;
@@ -68,7 +68,7 @@ in_front told groups group names those read few up =
       few_bytes = few_before those up.contents few up.few_bytes;
     }
 
-pub later_refused : (told : Option FileContents) (groups : List (List (List ℕ))) (names those : List (List ℕ)) (failed : List ℕ → Type 0) (refusal : Refusal) → MayReadAll told names those → bytes_together those ≤ most_bytes → RefusesGroups told groups failed refusal → RefusesGroups told (names ∷ groups) failed refusal
+pub later_refused : (told : Option FileContents) (groups : List (List (List ℕ))) (names those : List (List ℕ)) (failed : List ℕ → Type 0) (refusal : Refusal) → MayReadAll told names those → bytes_together those ≤ MOST_BYTES → RefusesGroups told groups failed refusal → RefusesGroups told (names ∷ groups) failed refusal
 later_refused told groups names those failed refusals.Memory read few refused = tt
 later_refused told groups names those failed refusals.Read read few refused =
     (refused.0, in_front told groups refused.0 names those read few refused.1, refused.2)
@@ -102,10 +102,10 @@ same_groups told (g ∷ groups) (c ∷ contents) (r ∷ read) are may =
 large_group : (told : Option FileContents) (first later contents : List (List (List ℕ))) (group read : List (List ℕ)) → HoldsGroups told (first ++ group ∷ later) contents → ReadsTooMuch told group read → is_too_large contents ≡ true
 large_group told [] later [] group read are much = absurd are
 large_group told [] later (c ∷ contents) group read are much =
-    rw (lt-ltb most_bytes (bytes_together c) (too_much told group c read are.0 much)) refl
+    rw (lt-ltb MOST_BYTES (bytes_together c) (too_much told group c read are.0 much)) refl
 large_group told (g ∷ first) later [] group read are much = absurd are
 large_group told (g ∷ first) later (c ∷ contents) group read are much =
-    either (nat_lt most_bytes (bytes_together c)) (is_too_large contents) (large_group told first later contents group read are.1 much)
+    either (nat_lt MOST_BYTES (bytes_together c)) (is_too_large contents) (large_group told first later contents group read are.1 much)
   where
     either : (a b : Bool) → b ≡ true → (a || b) ≡ true
     either true b is = refl

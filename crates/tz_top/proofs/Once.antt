@@ -4,7 +4,7 @@ use mathlib.Core.HLevel.{is_prop→PathP}
 use Rattle.std.proofs.Props.{props}
 use Rattle.std.specs.List.{concat}
 use Rattle.std.proofs.lemmas.Bool.{true≢false}
-use Rattle.tz_types.specs.Limit.{most_bytes}
+use Rattle.tz_types.specs.declared.limit.TheConstants.{MOST_BYTES}
 use Rattle.tz_types.specs.declared.source.Source.{Source}
 use Rattle.tz_script.specs.Script.{ReadsScript}
 use Rattle.tz_script.specs.declared.script.Script.{Script}
@@ -42,7 +42,7 @@ by_parts a b texts leaps = λ i. record {
   leaps = leaps i;
   some_text = is_prop→PathP (λ j. 1 ≤ length (texts j)) (λ j. hlevel props) a.some_text b.some_text i;
   few_texts = is_prop→PathP (λ j. length (texts j) ≤ most_sources) (λ j. hlevel props) a.few_texts b.few_texts i;
-  few_bytes = is_prop→PathP (λ j. length (leaps j) ≤ most_bytes) (λ j. hlevel props) a.few_bytes b.few_bytes i;
+  few_bytes = is_prop→PathP (λ j. length (leaps j) ≤ MOST_BYTES) (λ j. hlevel props) a.few_bytes b.few_bytes i;
 }
 
 -- contents are those of one script's text and of the same sources

@@ -5,7 +5,7 @@ use Rattle.std.specs.declared.alloc.Global.{Global}
 use Rattle.std.proofs.lemmas.Bool.{false≢true, and_parts, leb-true}
 use Rattle.std.proofs.lemmas.List.{take-append-drop, drop_more, take_more, map-append}
 use Rattle.std.proofs.lemmas.List.Elements.{filter_map-append}
-use Rattle.tz_types.specs.Limit.{most_bytes}
+use Rattle.tz_types.specs.declared.limit.TheConstants.{MOST_BYTES}
 use Rattle.tz_types.specs.Source.{bytes_together}
 use Rattle.tz_types.specs.declared.source.Source.{Source}
 use Rattle.tz_version.specs.Sources.{most_sources}
@@ -114,7 +114,7 @@ lone told name (c ∷ []) read = ap (λ (it : List ℕ). it ∷ []) (sym (append
 lone told name (c ∷ d ∷ contents) read = absurd read.1
 
 -- what was read of the script's file, of the leap text's and of the texts are the texts of the batch
-pub texts_read : (told : Option FileContents) (batch : BatchCommand) (script_file leap_file : List (List ℕ)) (script : List ℕ) (sources : Sources) → MayReadAll told (batch.script ∷ []) script_file → bytes_together script_file ≤ most_bytes → script ≡ concat script_file → MayReadAll told (leap_files batch.leaps) leap_file → bytes_together leap_file ≤ most_bytes → sources.leaps ≡ concat leap_file → AreReadSources told batch.texts sources.texts → AreReadTexts told batch script sources
+pub texts_read : (told : Option FileContents) (batch : BatchCommand) (script_file leap_file : List (List ℕ)) (script : List ℕ) (sources : Sources) → MayReadAll told (batch.script ∷ []) script_file → bytes_together script_file ≤ MOST_BYTES → script ≡ concat script_file → MayReadAll told (leap_files batch.leaps) leap_file → bytes_together leap_file ≤ MOST_BYTES → sources.leaps ≡ concat leap_file → AreReadSources told batch.texts sources.texts → AreReadTexts told batch script sources
 texts_read told batch script_file leap_file script sources first few script_is second few_leaps leaps_are have =
     let one : script_file ≡ script ∷ [] = lone told batch.script script_file first ∙ ap (λ (it : List ℕ). it ∷ []) (sym script_is) in
     record {

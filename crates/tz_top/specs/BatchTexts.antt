@@ -1,7 +1,7 @@
 -- What a batch reads: the files that its words name, and the script's text and the sources that their contents are.
 use Rattle.std.specs.Prelude.{◌≡◌, ℕ, ◌≤◌, List, [], ◌∷◌, map, Option, IsFalse}
 use Rattle.std.specs.List.{concat}
-use Rattle.tz_types.specs.Limit.{most_bytes}
+use Rattle.tz_types.specs.declared.limit.TheConstants.{MOST_BYTES}
 use Rattle.tz_types.specs.Source.{bytes_together}
 use Rattle.tz_types.specs.declared.source.Source.{Source}
 use Rattle.tz_version.specs.declared.sources.Sources.{Sources}
@@ -40,7 +40,7 @@ pub record AreTextsOf (batch : BatchCommand) (contents : List (List (List ℕ)))
 pub record IsReadSource (told : Option FileContents) (text : NamedText) (source : Source) : Type 0 where
   pub contents : List (List ℕ)
   pub read : MayReadAll told text.files contents
-  pub few_bytes : bytes_together contents ≤ most_bytes
+  pub few_bytes : bytes_together contents ≤ MOST_BYTES
   pub is : IsSourceOf text contents source
 
 -- The sources may be what was read of the texts named.

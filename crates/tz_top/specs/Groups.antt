@@ -2,7 +2,7 @@
 -- limit: the bytes that its files may have together.
 use Rattle.std.specs.Prelude.{◌≡◌, ℕ, nat_lt, Bool, List, ◌∷◌, ◌++◌, Option, IsFalse}
 use Rattle.std.specs.List.{AllZip, Any, list_any}
-use Rattle.tz_types.specs.Limit.{most_bytes}
+use Rattle.tz_types.specs.declared.limit.TheConstants.{MOST_BYTES}
 use Rattle.tz_types.specs.Source.{bytes_together}
 use Rattle.tz_cli.specs.Outcome.{FileContents, Holds, MayReadAll, FailsToRead, ReadsTooMuch}
 
@@ -16,7 +16,7 @@ MayReadGroups told groups contents = AllZip (MayReadAll told) groups contents
 
 -- the contents of some group are too large together
 abbrev pub is_too_large : List (List (List ℕ)) → Bool
-is_too_large contents = list_any (λ those. nat_lt most_bytes (bytes_together those)) contents
+is_too_large contents = list_any (λ those. nat_lt MOST_BYTES (bytes_together those)) contents
 
 -- The groups before this one may have these contents, none of which are too large together.
 pub record ReadsGroupsUpTo (told : Option FileContents) (groups : List (List (List ℕ))) (group : List (List ℕ)) : Type 0 where

@@ -1,6 +1,6 @@
 //! What a batch comes to over its texts.
 ghost use Rattle.std.specs.Prelude.{◌≡◌, ◌≤◌, length, IfOk, IfErr};
-ghost use Rattle.tz_types.specs.Limit.{most_bytes};
+ghost use Rattle.tz_types.specs.declared.limit.TheConstants.{MOST_BYTES};
 ghost use Rattle.tz_script.specs.Keeping.{KeepsSources};
 ghost use Rattle.tz_script.specs.Script.{ReadsScript};
 ghost use Rattle.pin_core.specs.declared.limits.TheConstants.{FEWEST_SLOTS, MOST_SLOTS};
@@ -23,7 +23,7 @@ use tz_version::{MakeError, Sources};
 
 /// The script that a text is, where it may name so many sources.
 fn script_of(alloc: Global, text: &[u8], sources: u32) -> Result<Script, Refusal>
-    requires { length text.now ≤ most_bytes }
+    requires { length text.now ≤ MOST_BYTES }
     ensures reads { IfOk result (λ script. ReadsScript sources text.now script) }
     ensures sources { IfOk result (λ script. KeepsSources sources script.operations) }
     ensures refused { IfErr result (λ refusal. RefusesAsScript sources text.now refusal) }

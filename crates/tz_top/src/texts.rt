@@ -1,7 +1,7 @@
 //! The texts of a batch: its script, its leap text, and its sources.
 ghost use Rattle.std.specs.Prelude.{◌≡◌, ◌≤◌, ℕ, List, length, IsTrue, IsSome, IfOk, IfErr, OnOk};
 ghost use Rattle.std.specs.List.{concat};
-ghost use Rattle.tz_types.specs.Limit.{most_bytes};
+ghost use Rattle.tz_types.specs.declared.limit.TheConstants.{MOST_BYTES};
 ghost use Rattle.tz_cli.specs.NamedText.{NamedText, named_text_of};
 ghost use Rattle.tz_cli.specs.BatchCommand.{IsTextOf, name_texts, texts_in};
 ghost use Rattle.tz_cli.specs.Command.{batch_meant};
@@ -21,7 +21,7 @@ use tz_version::Sources;
 pub struct BatchTexts {
     pub script: Text,
     pub sources: Sources,
-    pub ghost few_bytes: { length script ≤ most_bytes },
+    pub ghost few_bytes: { length script ≤ MOST_BYTES },
 }
 
 /// The one text, or one without bytes where there is none.

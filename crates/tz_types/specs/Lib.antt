@@ -6,8 +6,9 @@ pub mod Amount
 pub mod Format
 pub mod Saves
 pub mod Order
-pub mod Limit
 pub mod Source
 pub mod Cause
 pub mod Fault
+pub mod Reason
+pub mod Lending
 pub mod Leap

@@ -1,7 +1,7 @@
 //! What a source says as a whole (C++20, [time.zone.db.tzdb]).
 ghost use Rattle.std.specs.Prelude.{◌≤◌, length, map, IsTrue};
 ghost use Rattle.tz_types.specs.Order.{ascends, name_before};
-ghost use Rattle.tz_types.specs.Limit.{most_sets, most_zones, most_links};
+ghost use Rattle.tz_types.specs.declared.limit.TheConstants.{MOST_SETS, MOST_ZONES, MOST_LINKS};
 
 use crate::{Items, Link, RuleSet, Shared, VersionText, Zone};
 
@@ -15,7 +15,7 @@ pub struct Db {
     pub ghost sets_ascend: { IsTrue (ascends name_before (map (λ set. set.name) sets)) },
     pub ghost zones_ascend: { IsTrue (ascends name_before (map (λ zone. zone.name) zones)) },
     pub ghost links_ascend: { IsTrue (ascends name_before (map (λ link. link.name) links)) },
-    pub ghost few_sets: { length sets ≤ most_sets },
-    pub ghost few_zones: { length zones ≤ most_zones },
-    pub ghost few_links: { length links ≤ most_links },
+    pub ghost few_sets: { length sets ≤ MOST_SETS },
+    pub ghost few_zones: { length zones ≤ MOST_ZONES },
+    pub ghost few_links: { length links ≤ MOST_LINKS },
 }

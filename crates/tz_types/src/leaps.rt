@@ -3,14 +3,12 @@
 ghost use Rattle.std.specs.Prelude.{◌≡◌, ◌≤◌, ◌↔◌, length, map, pos, int_lt, IsTrue, IfOk};
 ghost use Rattle.jiff_core.specs.Calendar.{IsWithin};
 ghost use Rattle.tz_types.specs.Order.{ascends};
-ghost use Rattle.tz_types.specs.Limit.{most_leaps};
+ghost use Rattle.tz_types.specs.declared.limit.TheConstants.{MOST_LEAPS};
 ghost use Rattle.tz_types.specs.Leap.{sign, running_sums};
 
+use crate::limit::MOST_LEAPS;
 use crate::{Items, LeapEntry, NoMemory};
 use std::alloc::Global;
-
-/// The most leap seconds that a table may have.
-pub const MOST_LEAPS: usize = 1_024;
 
 /// Leap seconds in the order of their dates, and the moment from which the table isn't known to hold.
 #[derive(Debug, PartialEq, Drop)]
@@ -20,14 +18,14 @@ pub struct Leaps {
     /// How many seconds the entries before each place add, and last how many all of them do.
     pub sums: Items<i64>,
     pub ghost ascending: { IsTrue (ascends int_lt (map (λ entry. entry.date) entries)) },
-    pub ghost few_enough: { length entries ≤ most_leaps },
+    pub ghost few_enough: { length entries ≤ MOST_LEAPS },
     pub ghost summed: { sums ≡ running_sums (pos 0) entries },
 }
 
 impl Leaps {
     /// Whether the entries make a table: each has a later date than the one before it, and there are at most 1,024.
     pub fn are_entries(entries: &[LeapEntry]) -> bool
-        ensures { IsTrue result ↔ (IsTrue (ascends int_lt (map (λ entry. entry.date) entries.now)) × (length entries.now ≤ most_leaps)) }
+        ensures { IsTrue result ↔ (IsTrue (ascends int_lt (map (λ entry. entry.date) entries.now)) × (length entries.now ≤ MOST_LEAPS)) }
     {
         entries.len() <= MOST_LEAPS && ascend(entries)
     }
@@ -39,7 +37,7 @@ impl Leaps {
         expires: Option<i64>,
     ) -> Result<Self, NoMemory>
         requires ascending { IsTrue (ascends int_lt (map (λ entry. entry.date) entries)) }
-        requires few_enough { length entries ≤ most_leaps }
+        requires few_enough { length entries ≤ MOST_LEAPS }
         ensures entries { IfOk result (λ leaps. leaps.entries ≡ entries) }
         ensures expires { IfOk result (λ leaps. leaps.expires ≡ expires) }
     {
@@ -65,7 +63,7 @@ fn ascend(entries: &[LeapEntry]) -> bool
 
 /// How many seconds the entries before each place add, and last how many all of them do.
 fn running_sums(alloc: Global, entries: &[LeapEntry]) -> Result<Items<i64>, NoMemory>
-    requires { length entries.now ≤ most_leaps }
+    requires { length entries.now ≤ MOST_LEAPS }
     ensures { IfOk result (λ sums. sums ≡ running_sums (pos 0) entries.now) }
 {
     let mut sums = Vec::with_capacity(alloc, entries.len() + 1)?;

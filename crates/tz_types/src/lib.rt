@@ -16,6 +16,7 @@ mod instant;
 mod leap_entry;
 mod leap_info;
 mod leaps;
+mod limit;
 mod link;
 mod list;
 mod memory;
@@ -40,7 +41,11 @@ pub use format::Format;
 pub use instant::{END_OF_TIME, FIRST_INSTANT};
 pub use leap_entry::LeapEntry;
 pub use leap_info::LeapInfo;
-pub use leaps::{Leaps, MOST_LEAPS};
+pub use leaps::Leaps;
+pub use limit::{
+    LONGEST_LINE, LONGEST_NAME, LONGEST_SHIFT, LONGEST_VERSION, MOST_BYTES, MOST_FILES, MOST_LEAPS,
+    MOST_LINKS, MOST_RULES, MOST_SETS, MOST_TEXT_LINES, MOST_ZONE_LINES, MOST_ZONES,
+};
 pub use link::Link;
 pub use list::Items;
 pub use memory::NoMemory;
@@ -49,7 +54,7 @@ pub use range::{Choose, LocalInfo, SysInfo};
 pub use rule::Rule;
 pub use rule_set::RuleSet;
 pub use shared::Shared;
-pub use source::{MOST_BYTES, MOST_FILES, Source, Text};
+pub use source::{Source, Text};
 pub use text::{Abbrev, Label, Letters, PrintableText, TextError, VersionText};
 pub use until::Until;
 pub use zone::Zone;

@@ -1,5 +1,5 @@
 //! Lists that contracts see as their elements.
-ghost use Rattle.std.specs.Prelude.{◌≡◌, [], ◌∷◌, ◌++◌, ◌↔◌, length, IsTrue, OnOk, OnErr};
+ghost use Rattle.std.specs.Prelude.{◌≡◌, [], ◌∷◌, ◌++◌, ◌↔◌, ◌-◌, ◌<◌, length, slice_index_or, IsTrue, IsSome, IfSome, OnOk, OnErr};
 ghost use Rattle.std.specs.Cmp.Lexicographic.{pointwise, lists_per};
 
 use crate::NoMemory;
@@ -24,6 +24,9 @@ impl<T> Model for Items<T> {
 }
 
 impl<T> Items<T> {
+    ghost use Rattle.std.specs.Borrow.{sem};
+    ghost use Rattle.tz_types.specs.Lending.{lends_element};
+
     /// An empty list, which takes no memory.
     pub fn new(alloc: Global) -> Self
         ensures { result ≡ [] }
@@ -50,6 +53,24 @@ impl<T> Items<T> {
         ensures { result.now ≡ self.now }
     {
         self.items.as_slice()
+    }
+
+    /// The element at a place, for change. None comes exactly where there are no more than `place` elements.
+    pub fn get_mut(&mut self, place: usize) -> Option<&mut T>
+        ensures* writes_back { sem 𝓛 (lends_element T.row self.entry place result) }
+        ensures there { IsSome result ↔ (place < length self.old) }
+        ensures element { IfSome result (λ element. element.now ≡ slice_index_or self.old place element.now) }
+    {
+        self.items.get_mut(place)
+    }
+
+    /// The last element, for change. None comes exactly where there are none.
+    pub fn last_mut(&mut self) -> Option<&mut T>
+        ensures* writes_back { sem 𝓛 (lends_element T.row self.entry (length self.old - 1) result) }
+        ensures there { IsSome result ↔ (0 < length self.old) }
+        ensures element { IfSome result (λ element. element.now ≡ slice_index_or self.old (length self.old - 1) element.now) }
+    {
+        self.items.last_mut()
     }
 
     pub fn len(&self) -> usize

@@ -1,7 +1,7 @@
 //! Rules of one name.
 ghost use Rattle.std.specs.Prelude.{◌≤◌, length, map, nat_lt, IsTrue};
 ghost use Rattle.tz_types.specs.Order.{ascends};
-ghost use Rattle.tz_types.specs.Limit.{most_rules};
+ghost use Rattle.tz_types.specs.declared.limit.TheConstants.{MOST_RULES};
 
 use crate::{Items, Label, Rule};
 
@@ -11,5 +11,5 @@ pub struct RuleSet {
     pub name: Label,
     pub rules: Items<Rule>,
     pub ghost in_line_order: { IsTrue (ascends nat_lt (map (λ rule. rule.line) rules)) },
-    pub ghost few_enough: { length rules ≤ most_rules },
+    pub ghost few_enough: { length rules ≤ MOST_RULES },
 }

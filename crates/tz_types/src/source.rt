@@ -1,16 +1,11 @@
 //! What a database is read from: the files of a release, which zic(8) reads one after another.
 ghost use Rattle.std.specs.Prelude.{◌≡◌, ◌≤◌, ◌↔◌, None, [], ◌∷◌, length, IsTrue, IsSome, IfSome, IfOk};
-ghost use Rattle.tz_types.specs.Limit.{most_files, most_bytes};
+ghost use Rattle.tz_types.specs.declared.limit.TheConstants.{MOST_FILES, MOST_BYTES};
 ghost use Rattle.tz_types.specs.Source.{bytes_together, FitsSource};
 
+use crate::limit::{MOST_BYTES, MOST_FILES};
 use crate::{Items, NoMemory, VersionText};
 use std::alloc::Global;
-
-/// The most files of a source.
-pub const MOST_FILES: usize = 16;
-
-/// The most bytes of the files of a source together, and of a leap text or a script.
-pub const MOST_BYTES: usize = 4_194_304;
 
 /// The bytes of a file.
 pub type Text = Items<u8>;
@@ -22,8 +17,8 @@ pub struct Source {
     pub version: Option<VersionText>,
     pub files: Items<Text>,
     pub ghost some_file: { 1 ≤ length files },
-    pub ghost few_files: { length files ≤ most_files },
-    pub ghost few_bytes: { bytes_together files ≤ most_bytes },
+    pub ghost few_files: { length files ≤ MOST_FILES },
+    pub ghost few_bytes: { bytes_together files ≤ MOST_BYTES },
 }
 
 impl Source {
@@ -44,7 +39,7 @@ impl Source {
 
     /// The source of one file, without a version given.
     pub fn of_text(alloc: Global, text: Vec<u8>) -> Result<Self, NoMemory>
-        requires { length text.items ≤ most_bytes }
+        requires { length text.items ≤ MOST_BYTES }
         ensures version { IfOk result (λ (source : Source). source.version ≡ None) }
         ensures files { IfOk result (λ (source : Source). source.files ≡ text.items ∷ []) }
     {
@@ -59,7 +54,7 @@ impl Source {
 
 /// Whether the texts have at most 4,194,304 bytes together.
 fn are_few_bytes(texts: &[Text]) -> bool
-    ensures { IsTrue result ↔ (bytes_together texts.now ≤ most_bytes) }
+    ensures { IsTrue result ↔ (bytes_together texts.now ≤ MOST_BYTES) }
 {
     let mut left = MOST_BYTES;
     for text in texts {

@@ -3,6 +3,7 @@ ghost use Rattle.std.specs.Prelude.{◌≡◌, ◌≤◌, ◌↔◌, [], length,
 ghost use Rattle.std.specs.List.{list_all};
 ghost use Rattle.tz_types.specs.Text.{is_printable, IsText};
 
+use crate::limit::{LONGEST_NAME, LONGEST_VERSION};
 use arrayvec::ArrayVec;
 use std::error::Error;
 use std::fmt;
@@ -31,7 +32,7 @@ pub struct PrintableText<const LEAST: usize, const MOST: usize> {
 }
 
 /// The name of a zone, a link or a rule set.
-pub type Label = PrintableText<1, 255>;
+pub type Label = PrintableText<1, LONGEST_NAME>;
 
 /// The letters that a rule puts in place of `%s`.
 pub type Letters = PrintableText<0, 8>;
@@ -40,7 +41,7 @@ pub type Letters = PrintableText<0, 8>;
 pub type Abbrev = PrintableText<0, 32>;
 
 /// The version that a text names in its first line.
-pub type VersionText = PrintableText<1, 64>;
+pub type VersionText = PrintableText<1, LONGEST_VERSION>;
 
 impl<const LEAST: usize, const MOST: usize> Model for PrintableText<LEAST, MOST> {
     ghost use Rattle.std.specs.Prelude.{List, ℕ};

@@ -4,7 +4,7 @@ use Rattle.std.specs.List.{AllZip}
 use Rattle.std.proofs.lemmas.Option.{slice_get_cases, none-some, same_Some}
 use Rattle.std.proofs.lemmas.Slice.Zip.{AllZip-long}
 use Rattle.tz_types.specs.Order.{ascends, name_before}
-use Rattle.tz_types.specs.Limit.{most_zones}
+use Rattle.tz_types.specs.declared.limit.TheConstants.{MOST_ZONES}
 use Rattle.tz_types.specs.declared.link.Link.{Link}
 use Rattle.tz_types.specs.declared.database.Db.{Db}
 use Rattle.tz_lines.specs.Locate.{located}
@@ -42,7 +42,7 @@ module _ (version : Release) (cells : List Cells) (kept : IsKept version cells) 
       let long = AllZip-long (IsCompiled kept.is.db) kept.is.db.zones version.zones kept.is.zones in
       omega (arith, low, long)
 
-  pub place_small : (place : ℕ) → Some place ≡ place_called version.zones version.links name → place < most_zones
+  pub place_small : (place : ℕ) → Some place ≡ place_called version.zones version.links name → place < MOST_ZONES
   place_small place found =
       let low = located_within name kept.is.db place kept.sound (sym (found ∙ is_located)) in
       let few = kept.is.db.few_zones in

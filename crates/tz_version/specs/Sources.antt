@@ -1,6 +1,6 @@
 -- How many sources come together, and how long their leap text is.
 use Rattle.std.specs.Prelude.{ℕ, ◌≤◌, List, length}
-use Rattle.tz_types.specs.Limit.{most_bytes}
+use Rattle.tz_types.specs.declared.limit.TheConstants.{MOST_BYTES}
 use Rattle.tz_types.specs.declared.source.Source.{Source}
 
 -- the sources that come together
@@ -11,4 +11,4 @@ most_sources = 64
 pub record FitsSources (texts : List Source) (leaps : List ℕ) : Type 0 where
   pub some_text : 1 ≤ length texts
   pub few_texts : length texts ≤ most_sources
-  pub few_bytes : length leaps ≤ most_bytes
+  pub few_bytes : length leaps ≤ MOST_BYTES

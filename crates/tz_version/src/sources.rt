@@ -1,6 +1,6 @@
 //! What versions are made from.
 ghost use Rattle.std.specs.Prelude.{◌≡◌, ◌≤◌, ◌↔◌, length, IsSome, IfSome};
-ghost use Rattle.tz_types.specs.Limit.{most_bytes};
+ghost use Rattle.tz_types.specs.declared.limit.TheConstants.{MOST_BYTES};
 ghost use Rattle.tz_version.specs.Sources.{most_sources, FitsSources};
 
 use tz_types::{Items, MOST_BYTES, Source, Text};
@@ -15,7 +15,7 @@ pub struct Sources {
     pub leaps: Text,
     pub ghost some_text: { 1 ≤ length texts },
     pub ghost few_texts: { length texts ≤ most_sources },
-    pub ghost few_bytes: { length leaps ≤ most_bytes },
+    pub ghost few_bytes: { length leaps ≤ MOST_BYTES },
 }
 
 impl Sources {

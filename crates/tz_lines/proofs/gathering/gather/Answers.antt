@@ -1,7 +1,7 @@
 use Rattle.std.proofs.Common.{◌≡◌, ◌+◌, ◌<◌, ◌≤◌, List, ℕ, take, length, sum_by, get_or, sym, ap, ◌∙◌, arith}
 use Rattle.std.proofs.lemmas.List.{drop_all}
 use Rattle.std.proofs.lemmas.List.Sums.{sum_by_more, sum_by-take-le}
-use Rattle.tz_types.specs.Limit.{most_bytes}
+use Rattle.tz_types.specs.declared.limit.TheConstants.{MOST_BYTES}
 use Rattle.tz_types.specs.Source.{bytes_together}
 use Rattle.tz_specs.specs.Contents.{Contents, contents_over}
 use Rattle.tz_lines.specs.Gathered.{contents_gathered}
@@ -20,7 +20,7 @@ loop-text-init c =
     }
 
 -- one more file has few enough bytes
-few_more : (texts : List (List ℕ)) (place number : ℕ) (text : List ℕ) → place < length texts → text ≡ get_or texts place text → number ≤ 1 + sum_by length (take place texts) → bytes_together texts ≤ most_bytes → number + length text ≤ 4_194_305
+few_more : (texts : List (List ℕ)) (place number : ℕ) (text : List ℕ) → place < length texts → text ≡ get_or texts place text → number ≤ 1 + sum_by length (take place texts) → bytes_together texts ≤ MOST_BYTES → number + length text ≤ 4_194_305
 few_more texts place number text within is before few =
     let next = sum_by_more length texts place text within in
     let count : length text ≡ length (get_or texts place text) = ap length is in

@@ -2,7 +2,7 @@ use Rattle.std.proofs.Common.{◌≡◌, ◌<◌, ◌≤◌, length, Ok, Err, sy
 use Rattle.std.proofs.lemmas.Bool.{le-leb, lt-leb}
 use Rattle.std.proofs.lemmas.Result.{on_ok_weaker}
 use Rattle.tz_specs.specs.Written.{set_names}
-use Rattle.tz_types.specs.Limit.{most_sets}
+use Rattle.tz_types.specs.declared.limit.TheConstants.{MOST_SETS}
 use Rattle.tz_rules.specs.NamePlace.{name_place}
 use Rattle.tz_lines.specs.AddingOutcome.{MeansLimit}
 use Rattle.tz_lines.proofs.RuleSets.{full_known, full_new, added_known, names_kept, added_new, new_ascends, place_before, room_for_set}
@@ -47,7 +47,7 @@ pub returns-in_ok-insert_set-in-Err-clause-few : goal.returns-in_ok-insert_set-i
 returns-in_ok-insert_set-in-Err-clause-few c =
     let sets = c.args.sets.now.items in
     let within : c.in-Err.place ≤ length sets = rw c.as_slice.ensures.value at c.in-Err.ensures.bound in
-    let few : length sets < most_sets = omega arith in
+    let few : length sets < MOST_SETS = omega arith in
     rw c.in_ok-insert_set-in-Err.ensures (room_for_set sets c.in-Err.place c.in_ok-set_of-in-Err.field-0 within few)
 
 pub returns-in-Ok-clause-limit : goal.returns-in-Ok-clause-limit
@@ -62,10 +62,10 @@ pub returns-then-len-ge1024-clause-limit : goal.returns-then-len-ge1024-clause-l
 returns-then-len-ge1024-clause-limit c =
     let sets = c.args.sets.now.items in
     let place : Err c.in-Err.place ≡ name_place c.args.name.bytes.now (set_names sets) = rw (c.as_slice.ensures.value, c.as_bytes.ensures) at c.in-Err.ensures.place in
-    sym (full_new sets c.args.name.bytes.now c.in-Err.place c.requires.ascending (sym place)) ∙ le-leb most_sets (length sets) (omega arith)
+    sym (full_new sets c.args.name.bytes.now c.in-Err.place c.requires.ascending (sym place)) ∙ le-leb MOST_SETS (length sets) (omega arith)
 
 pub returns-in_ok-insert_set-in-Err-clause-limit : goal.returns-in_ok-insert_set-in-Err-clause-limit
 returns-in_ok-insert_set-in-Err-clause-limit c =
     let sets = c.args.sets.now.items in
     let place : Err c.in-Err.place ≡ name_place c.args.name.bytes.now (set_names sets) = rw (c.as_slice.ensures.value, c.as_bytes.ensures) at c.in-Err.ensures.place in
-    sym (full_new sets c.args.name.bytes.now c.in-Err.place c.requires.ascending (sym place)) ∙ lt-leb most_sets (length sets) (omega arith)
+    sym (full_new sets c.args.name.bytes.now c.in-Err.place c.requires.ascending (sym place)) ∙ lt-leb MOST_SETS (length sets) (omega arith)

@@ -1,7 +1,7 @@
 use Rattle.std.proofs.Common.{◌≡◌, ◌≤◌, ◌<◌, length, pos, false, ℤ, ◌+ℤ◌, ap, arith, to_z, of_z}
 use Rattle.std.specs.Int.{w64}
 use Rattle.std.proofs.lemmas.Int.{ints}
-use Rattle.tz_types.specs.Limit.{most_leaps}
+use Rattle.tz_types.specs.declared.limit.TheConstants.{MOST_LEAPS}
 use Rattle.tz_types.specs.declared.leap_entry.LeapEntry.{LeapEntry}
 use Rattle.tz_types.proofs.LeapSums.{sums_more}
 use Rattle.tz_types.proofs.leaps.running_sums.Goals as goal
@@ -9,7 +9,7 @@ use Rattle.tz_types.proofs.leaps.running_sums.Goals as goal
 pub loop-entry-preserved : goal.loop-entry-preserved
 loop-entry-preserved c =
     let entries = c.args.entries.now in
-    let few : length entries ≤ most_leaps = c.requires in
+    let few : length entries ≤ MOST_LEAPS = c.requires in
     let within : c.loop-entry.entry-index < length entries = c.loop-entry-test.true in
     let sum = to_z w64 c.loop-entry.sum-bits in
     let d : LeapEntry = record { date = pos 0; added = false } in

@@ -1,7 +1,7 @@
 use Rattle.std.proofs.Common.{◌≡◌, ℕ, ◌+◌, ◌<◌, ◌≤◌, List, length, take, sum_by, get_or, refl, ap, arith}
 use Rattle.std.proofs.lemmas.List.Sums.{sum_by_more, sum_by-take-le}
 use Rattle.std.proofs.Common.{take_all}
-use Rattle.tz_types.specs.Limit.{most_bytes}
+use Rattle.tz_types.specs.declared.limit.TheConstants.{MOST_BYTES}
 use Rattle.tz_types.specs.Source.{bytes_together}
 use Rattle.tz_types.proofs.source.are_few_bytes.Goals as goal
 
@@ -9,14 +9,14 @@ pub loop-text-init : goal.loop-text-init
 loop-text-init c = refl
 
 -- what is left, less one more text
-one_less : (texts : List (List ℕ)) (place left : ℕ) (text : List ℕ) → place < length texts → text ≡ get_or texts place text → length text ≤ left → left + sum_by length (take place texts) ≡ most_bytes → (less : ℕ) → less + length text ≡ left → less + sum_by length (take (place + 1) texts) ≡ most_bytes
+one_less : (texts : List (List ℕ)) (place left : ℕ) (text : List ℕ) → place < length texts → text ≡ get_or texts place text → length text ≤ left → left + sum_by length (take place texts) ≡ MOST_BYTES → (less : ℕ) → less + length text ≡ left → less + sum_by length (take (place + 1) texts) ≡ MOST_BYTES
 one_less texts place left text within is enough before less left_is =
     let next = sum_by_more length texts place text within in
     let count : length text ≡ length (get_or texts place text) = ap length is in
     omega (arith, next, count, before, left_is)
 
 -- one more text is one too many
-too_many : (texts : List (List ℕ)) (place left : ℕ) (text : List ℕ) → place < length texts → text ≡ get_or texts place text → (length text ≤ left → ⊥) → left + sum_by length (take place texts) ≡ most_bytes → bytes_together texts ≤ most_bytes → ⊥
+too_many : (texts : List (List ℕ)) (place left : ℕ) (text : List ℕ) → place < length texts → text ≡ get_or texts place text → (length text ≤ left → ⊥) → left + sum_by length (take place texts) ≡ MOST_BYTES → bytes_together texts ≤ MOST_BYTES → ⊥
 too_many texts place left text within is more before few =
     let next = sum_by_more length texts place text within in
     let count : length text ≡ length (get_or texts place text) = ap length is in
@@ -47,5 +47,5 @@ pub returns : goal.returns
 returns c =
     let texts = c.args.texts.now in
     let all : take c.loop-text.text-index texts ≡ texts = take_all c.loop-text.text-index texts c.loop-text-test.false in
-    let sum : c.loop-text.left + bytes_together texts ≡ most_bytes = rw all at c.loop-text.invariant in
+    let sum : c.loop-text.left + bytes_together texts ≡ MOST_BYTES = rw all at c.loop-text.invariant in
     (λ yes. omega (arith, sum), λ few. refl)

@@ -1,6 +1,6 @@
 use Rattle.std.proofs.Common.{◌≡◌, ◌≤◌, length, map, IsTrue, ap, ◌∙◌}
 use Rattle.std.proofs.lemmas.Bool.{and_parts}
-use Rattle.tz_types.specs.Limit.{most_zones}
+use Rattle.tz_types.specs.declared.limit.TheConstants.{MOST_ZONES}
 use Rattle.tz_types.specs.declared.zone_line.ZoneLine.{ZoneLine}
 use Rattle.tz_specs.specs.Written.{WrittenLine, Continuation, written_zone}
 use Rattle.tz_specs.specs.Contents.{with_line, with_record, last_lines, wants_line, waits}
@@ -16,7 +16,7 @@ invariant_of-self-2-clause-few_zones c =
     let before = c.zone_line.new.self in
     let line = c.in_ok-line.line in
     let zones : c.from_vec.result ≡ with_zone_line line before.zones = c.from_vec.ensures ∙ c.in_ok-continue_last.ensures ∙ ap (with_zone_line line) (c.into_vec-zones.ensures ∙ c.replace.ensures.value) in
-    let few : length before.zones ≤ most_zones = before.few_zones in
+    let few : length before.zones ≤ MOST_ZONES = before.few_zones in
     rw (zones, count_with_line line before.zones) few
 
 pub invariant_of-self-2-clause-continued : goal.invariant_of-self-2-clause-continued

@@ -1,5 +1,5 @@
 use Rattle.std.proofs.Common.{◌≡◌, ◌<◌, get_or, Some, None, rules, arith, refl}
-use Rattle.tz_types.specs.Limit.{most_zones}
+use Rattle.tz_types.specs.declared.limit.TheConstants.{MOST_ZONES}
 use Rattle.tz_version.specs.Release.{IsZoneCalled}
 use Rattle.tz_version.specs.Search.{place_called}
 use Rattle.tz_version.proofs.ZonesCalled.{zones_ascend, links_ascend, place_there, place_small, place_with_cells, zone_called, lacks_zone, called_not_lacking}
@@ -14,7 +14,7 @@ place_called-requires-clause-links_ascend c = rw c.as_slice-2.ensures (links_asc
 pub offset_bounds-as_slice-place : goal.offset_bounds-as_slice-place
 offset_bounds-as_slice-place c =
     let found : Some c.in-Some.place ≡ place_called c.self.inside.zones c.self.inside.links c.args.name.now = search rules in
-    let small : c.in-Some.place < most_zones = place_small _ _ c.self.invariant c.args.name.now c.in-Some.place found in
+    let small : c.in-Some.place < MOST_ZONES = place_small _ _ c.self.invariant c.args.name.now c.in-Some.place found in
     omega arith
 
 pub bounds-as_slice-place : goal.bounds-as_slice-place
@@ -25,7 +25,7 @@ bounds-as_slice-place c =
 pub offset_bounds-as_slice-place-in-Some : goal.offset_bounds-as_slice-place-in-Some
 offset_bounds-as_slice-place-in-Some c =
     let found : Some c.in-Some.place ≡ place_called c.self.inside.zones c.self.inside.links c.args.name.now = search rules in
-    let small : c.in-Some.place < most_zones = place_small _ _ c.self.invariant c.args.name.now c.in-Some.place found in
+    let small : c.in-Some.place < MOST_ZONES = place_small _ _ c.self.invariant c.args.name.now c.in-Some.place found in
     omega arith
 
 pub bounds-as_slice-place-in-Some : goal.bounds-as_slice-place-in-Some
