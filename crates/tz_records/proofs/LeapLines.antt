@@ -5,7 +5,8 @@ use Rattle.std.specs.List.{list_any}
 use Rattle.std.proofs.lemmas.Bool.{eqb-true}
 use Rattle.tz_types.specs.declared.cause.Cause.{Cause}
 use Rattle.tz_types.specs.declared.cause.Cause.TheVariants as causes
-use Rattle.tz_text.specs.Kept.{Kept, kept_of, most_kept}
+use Rattle.tz_text.specs.declared.kept.TheConstants.{MOST_KEPT}
+use Rattle.tz_text.specs.Kept.{Kept, kept_of}
 use Rattle.tz_specs.specs.Field.{fields_of}
 use Rattle.tz_specs.specs.Causes.{least_cause, unless_cause}
 use Rattle.tz_specs.specs.Value.{field_at}
@@ -52,7 +53,7 @@ moment_said fields day second e f = rw (e, f) refl
 
 -- ---- the kind of a record
 
-few_counted : (kind : LeapKind) (count : ℕ) → has_leap_count kind count ≡ true → count ≤ most_kept
+few_counted : (kind : LeapKind) (count : ℕ) → has_leap_count kind count ≡ true → count ≤ MOST_KEPT
 few_counted SecondLine count h = let is = eqb-true count 7 h in omega arith
 few_counted ExpiryLine count h = let is = eqb-true count 5 h in omega arith
 

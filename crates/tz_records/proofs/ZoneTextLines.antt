@@ -5,7 +5,8 @@ use Rattle.std.proofs.lemmas.Bool.{and_parts, leb-true, eqb-true}
 use Rattle.std.proofs.lemmas.Option.{same_Some}
 use Rattle.tz_types.specs.declared.cause.Cause.{Cause}
 use Rattle.tz_types.specs.declared.cause.Cause.TheVariants as causes
-use Rattle.tz_text.specs.Kept.{Kept, kept_of, most_kept}
+use Rattle.tz_text.specs.declared.kept.TheConstants.{MOST_KEPT}
+use Rattle.tz_text.specs.Kept.{Kept, kept_of}
 use Rattle.tz_specs.specs.Field.{fields_of}
 use Rattle.tz_specs.specs.Causes.{least_cause}
 use Rattle.tz_specs.specs.Value.{field_at, names_set, is_bad_name, is_long_name}
@@ -117,7 +118,7 @@ link_counted before number fields (Err cause) tells =
 -- ---- the kind of a record
 
 -- no record has more fields than are kept
-pub few_counted : (kind : Kind) (count : ℕ) → has_count kind count ≡ true → count ≤ most_kept
+pub few_counted : (kind : Kind) (count : ℕ) → has_count kind count ≡ true → count ≤ MOST_KEPT
 few_counted RuleLine count h =
     let is = eqb-true count 10 h in
     omega arith

@@ -1,7 +1,8 @@
 //! One line of a zone text.
 ghost use Rattle.std.specs.Prelude.{◌≡◌, ℕ, ◌==◌, ◌≤◌, true, false, List, Some, option_map, IfOk, IfErr, length};
 ghost use Rattle.std.specs.List.{list_any};
-ghost use Rattle.tz_text.specs.Kept.{kept_of, most_kept};
+ghost use Rattle.tz_text.specs.declared.kept.TheConstants.{MOST_KEPT};
+ghost use Rattle.tz_text.specs.Kept.{kept_of};
 ghost use Rattle.tz_specs.specs.Record.{has_count, record_of};
 ghost use Rattle.tz_specs.specs.Contents.{Contents, waits, record_causes, field_causes, record_of_fields};
 ghost use Rattle.tz_records.specs.Entry.{written_entry};
@@ -35,7 +36,7 @@ fn record_entry<'a>(kind: Kind, fields: &Fields<'a>, number: u32) -> Result<Entr
 
 /// What the fields of a line say: an entry, nothing where there are none, or their least cause.
 fn said<'a>(fields: &Fields<'a>, number: u32, waiting: bool) -> Result<Option<Entry<'a>>, Cause>
-    requires { fields.now.count ≤ most_kept → length fields.now.first ≡ fields.now.count }
+    requires { fields.now.count ≤ MOST_KEPT → length fields.now.first ≡ fields.now.count }
     ensures { (before : Contents) (all : List (List ℕ)) → waits before ≡ waiting → kept_of all ≡ fields.now →
         TellsUncounted (option_map written_entry) (exceeds_said before) (field_causes before all) (Some (record_of_fields before number all)) result }
 {

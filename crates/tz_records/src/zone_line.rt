@@ -2,7 +2,7 @@
 ghost use Rattle.std.specs.Prelude.{◌≡◌, ◌||◌, IsTrue, ◌+◌, ◌≤◌, ◌<◌, ◌^◌, drop, length, option_map};
 ghost use Rattle.tz_types.specs.Amount.{IsShift};
 ghost use Rattle.tz_types.specs.Format.{is_format};
-ghost use Rattle.tz_text.specs.Kept.{most_kept};
+ghost use Rattle.tz_text.specs.declared.kept.TheConstants.{MOST_KEPT};
 ghost use Rattle.tz_specs.specs.Value.{field_at, field_or};
 ghost use Rattle.tz_specs.specs.Written.{written_until};
 ghost use Rattle.tz_specs.specs.Record.{written_end, until_of, line_of, line_causes};
@@ -23,7 +23,7 @@ use tz_types::{Cause, Moment, Until};
 /// The field at a place behind the first, or what stands for it where it is missing.
 #[tactic(auto, using(crate::proofs::ZoneLines::later_field))]
 fn field_or<'a>(fields: &Fields<'a>, first: usize, place: usize, missing: &'static [u8]) -> &'a [u8]
-    requires few { fields.now.count ≤ most_kept }
+    requires few { fields.now.count ≤ MOST_KEPT }
     requires whole { length fields.now.first ≡ fields.now.count }
     requires within { first + place < 2 ^ 32 }
     ensures { result.now ≡ field_or missing.now place (drop first fields.now.first) }
@@ -37,7 +37,7 @@ fn field_or<'a>(fields: &Fields<'a>, first: usize, place: usize, missing: &'stat
 
 /// The same where a field that is missing has no bytes.
 fn field_at<'a>(fields: &Fields<'a>, first: usize, place: usize) -> &'a [u8]
-    requires few { fields.now.count ≤ most_kept }
+    requires few { fields.now.count ≤ MOST_KEPT }
     requires whole { length fields.now.first ≡ fields.now.count }
     requires within { first + place < 2 ^ 32 }
     ensures { result.now ≡ field_at place (drop first fields.now.first) }
@@ -48,7 +48,7 @@ fn field_at<'a>(fields: &Fields<'a>, first: usize, place: usize) -> &'a [u8]
 /// The UNTIL of a line that has one, or the least cause of its fields.
 #[tactic(auto, unfolding(crate::specs::LineFields::end_causes, tz_specs::specs::Record::written_end))]
 fn written_end(fields: &Fields<'_>, first: usize) -> Result<Until, Cause>
-    requires few { fields.now.count ≤ most_kept }
+    requires few { fields.now.count ≤ MOST_KEPT }
     requires whole { length fields.now.first ≡ fields.now.count }
     requires within { first ≤ 2 }
     ensures { Tells written_until (end_causes (drop first fields.now.first)) (written_end (drop first fields.now.first)) result }
@@ -80,7 +80,7 @@ fn written_end(fields: &Fields<'_>, first: usize) -> Result<Until, Cause>
 /// The UNTIL of a line, none where it has none, or the least cause of its fields.
 #[tactic(auto, using(crate::proofs::ZoneLines::without_until, crate::proofs::ZoneLines::until_refused, crate::proofs::ZoneLines::until_told))]
 fn until(fields: &Fields<'_>, first: usize) -> Result<Option<Until>, Cause>
-    requires few { fields.now.count ≤ most_kept }
+    requires few { fields.now.count ≤ MOST_KEPT }
     requires whole { length fields.now.first ≡ fields.now.count }
     requires within { first ≤ 2 }
     ensures { Tells (option_map written_until) (until_causes (drop first fields.now.first)) (until_of (drop first fields.now.first)) result }
@@ -133,7 +133,7 @@ pub fn zone_line<'a>(
     badly_named: bool,
     long_named: bool,
 ) -> Result<EntryLine<'a>, Cause>
-    requires few { fields.now.count ≤ most_kept }
+    requires few { fields.now.count ≤ MOST_KEPT }
     requires whole { length fields.now.first ≡ fields.now.count }
     requires within { first ≤ 2 }
     ensures { Tells written_entry_line (line_causes badly_named long_named (drop first fields.now.first)) (line_of number (drop first fields.now.first)) result }
