@@ -14,8 +14,8 @@ ghost use Rattle.tz_records.specs.LineAlone.{SaysAlone, RefusesAlone};
 use crate::entry::Entry;
 use crate::kind::Kind;
 use crate::link_line::link_entry;
+use crate::opening::cut_fields;
 use crate::rule_line::rule_entry;
-use crate::values::has_nul;
 use crate::zone_record::{continuation_entry, zone_entry};
 use tz_text::{Fields, Joined};
 use tz_types::Cause;
@@ -55,14 +55,6 @@ fn said<'a>(fields: &Fields<'a>, number: u32, waiting: bool) -> Result<Option<En
     }
 }
 
-/// Whether the line has a NUL byte. Only a line of a text that may have one is looked through.
-fn has_nul_byte(line: &[u8], nuls: bool) -> bool
-    requires { nuls ≡ false → list_any (λ byte. byte == 0) line.now ≡ false }
-    ensures { result ≡ list_any (λ byte. byte == 0) line.now }
-{
-    nuls && has_nul(line)
-}
-
 /// What a line of a zone text says by itself: an entry, nothing where it is blank, or its least cause. Nothing is counted here:
 /// `Cause::Limit` comes only for a name that is too long, and an entry may be one too many.
 ///
@@ -79,14 +71,8 @@ pub fn read_line<'a>(
     ensures ok { IfOk result (λ said. SaysAlone waiting number line.now (option_map written_entry said)) }
     ensures err { IfErr result (RefusesAlone waiting line.now) }
 {
-    if line.len() + 1 > 2_048 {
-        return Err(Cause::LongLine);
+    match cut_fields(line, joined, nuls) {
+        Ok(fields) => said(&fields, number, waiting),
+        Err(cause) => Err(cause),
     }
-    if has_nul_byte(line, nuls) {
-        return Err(Cause::Nul);
-    }
-    let Ok(fields) = Fields::cut(line, joined) else {
-        return Err(Cause::OpenQuote);
-    };
-    said(&fields, number, waiting)
 }

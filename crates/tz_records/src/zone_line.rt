@@ -7,7 +7,7 @@ ghost use Rattle.tz_specs.specs.Value.{field_at, field_or};
 ghost use Rattle.tz_specs.specs.Written.{written_until};
 ghost use Rattle.tz_specs.specs.Record.{written_end, until_of, line_of, line_causes};
 ghost use Rattle.tz_records.specs.Entry.{written_entry_rules, written_entry_line};
-ghost use Rattle.tz_records.specs.FixedSave.{is_fixed_save};
+ghost use Rattle.tz_records.specs.FixedSave.{is_entry_save};
 ghost use Rattle.tz_records.specs.FormatField.{format_told, is_visible_format};
 ghost use Rattle.tz_records.specs.RulesField.{is_long_named};
 ghost use Rattle.tz_records.specs.LineFields.{end_causes, until_causes, line_with};
@@ -18,7 +18,7 @@ use crate::format_field::{FormatField, format_field};
 use crate::rules_field::{RulesField, rules_field};
 use crate::values::{month, rule_year, standard_offset, time, until_day};
 use tz_text::Fields;
-use tz_types::{Cause, Moment, Until};
+use tz_types::{Cause, LONGEST_FORMAT, Moment, Until};
 
 /// The field at a place behind the first, or what stands for it where it is missing.
 #[tactic(auto, using(crate::proofs::ZoneLines::later_field))]
@@ -103,7 +103,7 @@ fn entry_line<'a>(
     line: u32,
 ) -> EntryLine<'a>
     requires stdoff_in { IsShift stdoff }
-    requires save_in { IsTrue (is_fixed_save rules) }
+    requires save_in { IsTrue (is_entry_save rules) }
     requires visible { IsTrue (is_visible_format (format_told format)) }
     requires format_in { IsTrue (is_format (format_told format)) }
     ensures { written_entry_line result ≡ line_with stdoff (written_entry_rules rules.entry) (format_told format.entry) (option_map written_until until) line }
@@ -155,7 +155,7 @@ pub fn zone_line<'a>(
     let Some(format) = format_field(field) else {
         return Err(Cause::Format);
     };
-    if field.len() > 24 {
+    if field.len() > LONGEST_FORMAT {
         return Err(Cause::LongAbbrev);
     }
     if has_long_name(&rules, long_named) {
