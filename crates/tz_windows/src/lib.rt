@@ -13,5 +13,5 @@ mod zone_ref;
 
 pub use cells::{Cells, WINDOWS};
 pub use laws::ranges_of_a_zone_begin_apart;
-pub use scan::Scan;
+pub use scan::{MOST_LOOKS, Scan};
 pub use zone_ref::ZoneRef;
