@@ -15,9 +15,6 @@ use Rattle.pin_core.proofs.ReplayLemmas.{Orderly, EraseAsks, push_asks, erase_as
 use Rattle.pin_core.proofs.KeptLemmas.{same_kept, kept_here}
 
 -- ---- elements
-contains_first : {X : Type 0} (x : X) (xs : List X) → Contains (x ∷ xs) x
-contains_first x xs = (0, omega arith, refl)
-
 contains_later : {X : Type 0} (y x : X) (xs : List X) → Contains xs x → Contains (y ∷ xs) x
 contains_later y x xs has = (suc has.0, omega (arith, has.1), has.2)
 

@@ -3,6 +3,7 @@ use Rattle.std.proofs.Common.{◌≡◌, ℕ, zero, suc, ◌+◌, ◌*◌, ◌/�
 use mathlib.Core.Option.{some}
 use lib.ListN.{get_elem?}
 use Rattle.std.proofs.lemmas.List.{length-append}
+use Rattle.pin_core.specs.declared.limits.TheConstants.{READER_NUMBERS}
 use Rattle.pin_core.specs.declared.entry.Entry.{Entry}
 use Rattle.pin_core.specs.declared.view.View.{View}
 use Rattle.pin_core.specs.declared.view.Role.{Role}
@@ -74,8 +75,8 @@ pub front_back : (w n slot : ℕ) → w < 2 ^ 26 → n < 2 ^ 26 → slot < 2 ^ 6
     × (packed_front record { w = w; n = n; slot = slot } / 2 ^ 6 % 2 ^ 26 ≡ n) × (packed_front record { w = w; n = n; slot = slot } % 2 ^ 6 ≡ slot)
 front_back w n slot low lower lowest = (omega arith, omega arith, omega arith, omega arith)
 
-pub apart : (slot other reader another : ℕ) → reader < 16 → another < 16 → place slot reader ≡ place other another → (slot ≡ other) × (reader ≡ another)
+pub apart : (slot other reader another : ℕ) → reader < READER_NUMBERS → another < READER_NUMBERS → place slot reader ≡ place other another → (slot ≡ other) × (reader ≡ another)
 apart slot other reader another low lower same = (omega arith, omega arith)
 
-pub before_book : (slots slot reader : ℕ) → slot < slots → reader < 16 → place slot reader < book_place slots
+pub before_book : (slots slot reader : ℕ) → slot < slots → reader < READER_NUMBERS → place slot reader < book_place slots
 before_book slots slot reader low lower = omega arith

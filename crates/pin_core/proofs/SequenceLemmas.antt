@@ -45,26 +45,3 @@ counted_push writes write counted next number =
     subst (λ n. counts_from 0 (writes_by n (writes ++ write ∷ [])) ≡ true) same own)
     (λ (apart : write.by ≡ number → ⊥). rw (writes_by_other number writes write apart) (counted number))
     (cases_eq write.by number)
-
--- the tally after one more write
-pub tally_own : (counts : List ℕ) (writes : List Write) (write : Write) → IsTally counts writes → write.by < length counts → write.seq ≡ next_seq write.by writes → IsTally (set counts write.by write.seq) (writes ++ write ∷ [])
-tally_own counts writes write tally inside next number low =
-    ⊎_elim
-    (λ (same : number ≡ write.by).
-    let here : slice_index (set counts write.by write.seq) write.by ≡ write.seq = get_or-set_same counts write.by write.seq 0 inside in
-    let one : length (write ∷ []) ≡ 1 = refl in
-    let long : length (writes_by write.by (writes ++ write ∷ [])) ≡ length (writes_by write.by writes) + 1 =
-    ap (λ (xs : List Write). length xs) (writes_by_own writes write) ∙ length-append (writes_by write.by writes) (write ∷ []) in
-    rw same (here ∙ (next ∙ sym long)))
-    (λ (apart : number ≡ write.by → ⊥).
-    let kept : slice_index (set counts write.by write.seq) number ≡ slice_index counts number = get_or-set_other counts write.by number write.seq 0 apart in
-    let same : length (writes_by number (writes ++ write ∷ [])) ≡ length (writes_by number writes) =
-    ap (λ (xs : List Write). length xs) (writes_by_other number writes write (λ e. apart (sym e))) in
-    kept ∙ (tally number low ∙ sym same))
-    (cases_eq number write.by)
-
-pub tally_other : (counts : List ℕ) (writes : List Write) (write : Write) → IsTally counts writes → READER_NUMBERS ≤ write.by → IsTally counts (writes ++ write ∷ [])
-tally_other counts writes write tally high number low =
-    let same : length (writes_by number (writes ++ write ∷ [])) ≡ length (writes_by number writes) =
-    ap (λ (xs : List Write). length xs) (writes_by_other number writes write (λ e. omega (arith, e, low, high))) in
-    tally number low ∙ sym same

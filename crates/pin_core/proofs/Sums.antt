@@ -96,7 +96,3 @@ one_if-le false = omega arith
 pub one_if-true : (b : Bool) → one_if b ≡ 1 → b ≡ true
 one_if-true true is = refl
 one_if-true false is = absurd (omega arith)
-
-pub one_if-false : (b : Bool) → one_if b ≡ 0 → b ≡ false
-one_if-false true is = absurd (omega arith)
-one_if-false false is = refl

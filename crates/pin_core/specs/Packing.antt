@@ -1,5 +1,6 @@
 -- How the words of a state are packed into numbers of 64 bits, and where places stand. All by constants.
 use Rattle.std.specs.Prelude.{ℕ, ◌+◌, ◌*◌, ◌^◌, Option, Some, None}
+use Rattle.pin_core.specs.declared.limits.TheConstants.{READER_NUMBERS}
 use Rattle.pin_core.specs.declared.entry.SlotWord.{SlotWord}
 use Rattle.pin_core.specs.Core.{Front}
 
@@ -16,11 +17,11 @@ abbrev pub packed_turn : Option ℕ → ℕ
 packed_turn None = 0
 packed_turn (Some number) = number + 1
 
--- Where the place of this reader at this slot stands. There is one for each of 16 readers, whatever the number of
--- readers, so that the places of a slot are a run of 16 and two places are told apart by linear arithmetic.
+-- Where the place of this reader at this slot stands. There is one for each reader number, whatever the number of
+-- readers, so that the places of a slot are a run of as many and two places are told apart by linear arithmetic.
 abbrev pub place : ℕ → ℕ → ℕ
-place slot reader = 16 * slot + reader
+place slot reader = READER_NUMBERS * slot + reader
 
 -- where the book stands: behind the last place
 abbrev pub book_place : ℕ → ℕ
-book_place slots = 16 * slots
+book_place slots = READER_NUMBERS * slots

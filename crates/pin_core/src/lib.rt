@@ -4,6 +4,17 @@
 //! journal's replay. The definitions in `specs/` are what every layer above means by a version's number, its slot,
 //! the front and a position. The crate stands on `tz_types` for the names of versions.
 //!
+//! ```rust
+//! // two slots and room for three writes; version 1 of text 0 is listed in slot 0
+//! let mut book = Book::new(alloc, 2, 3, VersionText::new(b"2024a")?)?;
+//! // lane 0 pushes version 2, which is made of text 1, into slot 1
+//! let number = book.push(0, 1, VersionText::new(b"2024b")?, 1);
+//! let behind = book.after(number)?;
+//! // erases version 1, which stands behind version 2; slot 0 still keeps it
+//! let gone = book.erase(0, number);
+//! assert_eq!(rt; (number, behind.slot, gone, book.kept(0), book.w()), (2, 0, 1, 1, 2));
+//! ```
+//!
 //! The list that threads share stands here too, as arithmetic on plain values: `specs/Core` is a state of it, `specs/Step`
 //! each step, `specs/Lawful` what holds in each state, and `step_laws` to `packing_laws` what follows. No thread is here.
 #![tactic(auto)]

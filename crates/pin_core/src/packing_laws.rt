@@ -1,6 +1,7 @@
 //! The words of a lawful state fit 64 bits, and can be read back.
 
 ghost use Rattle.std.specs.Prelude.{◌≡◌, ℕ, ◌+◌, ◌*◌, ◌/◌, ◌%◌, ◌^◌, ◌<◌, ◌≤◌, Option};
+ghost use Rattle.pin_core.specs.declared.limits.TheConstants.{READER_NUMBERS};
 ghost use Rattle.pin_core.specs.Core.{CoreState, front_number, number_at, count_at};
 ghost use Rattle.pin_core.specs.Lawful.{Lawful};
 ghost use Rattle.pin_core.specs.Packing.{packed_slot, packed_front, place, book_place};
@@ -33,9 +34,9 @@ pub fn packed_words_are_read_back()
 
 /// The places of different readers and slots are different, and none is the book's.
 pub fn places_stand_apart()
-    ensures apart { (slot other reader another : ℕ) → reader < 16 → another < 16 → place slot reader ≡ place other another
+    ensures apart { (slot other reader another : ℕ) → reader < READER_NUMBERS → another < READER_NUMBERS → place slot reader ≡ place other another
         → (slot ≡ other)
         × (reader ≡ another) }
-    ensures book { (slots slot reader : ℕ) → slot < slots → reader < 16
+    ensures book { (slots slot reader : ℕ) → slot < slots → reader < READER_NUMBERS
         → place slot reader < book_place slots }
 {}

@@ -5,6 +5,16 @@
 //! come. `MemoryFiles` and `MemorySink` tell all that they hold, and fail at the calls that they are
 //! told to. `RealFiles` and `RealSink` pass each call on to the system, whose content no contract
 //! can tell. `put_all` writes a whole text. The crate stands on std and on `tz_types::NoMemory`.
+//!
+//! ```rust
+//! let mut files = RealFiles::new(&rt);
+//! // at most one byte more than the limit, so that a longer file shows
+//! let text = files.read(rt.alloc(), "tzdata.zi", 4_194_304)?;
+//! let mut sink = RealSink::new(&rt);
+//! if text.len() > 4_194_304 {
+//!     put_all(&mut sink, b"toolarge\n")?;
+//! }
+//! ```
 #![tactic(auto)]
 
 mod calls;

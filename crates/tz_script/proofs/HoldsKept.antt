@@ -19,18 +19,19 @@ use Rattle.tz_script.specs.Script.{script_contents_after, script_contents_of, ar
 use Rattle.tz_script.specs.Words.{line_words}
 use Rattle.tz_script.specs.declared.cause.ScriptCause.{ScriptCause}
 use Rattle.tz_script.specs.declared.cause.ScriptCause.TheVariants as causes
+use Rattle.tz_script.specs.declared.limit.TheConstants.{MOST_HOLDS}
 use Rattle.tz_script.specs.declared.holds.OpenHold.{OpenHold}
 use Rattle.tz_script.specs.declared.operation.Op.{Op}
 use Rattle.tz_script.specs.declared.operation.Operation.{Operation}
-use Rattle.tz_script.specs.declared.said.Said.{Said}
-use Rattle.tz_script.specs.declared.said.Said.TheVariants as said
+use Rattle.tz_script.specs.declared.statement.Statement.{Statement}
+use Rattle.tz_script.specs.declared.statement.Statement.TheVariants as statements
 use Rattle.tz_script.specs.declared.script.Script.{Script}
 use Rattle.tz_script.proofs.Reading.{after_none, after_said, after_cause}
 use Rattle.tz_script.proofs.HoldRules.{names_in, open_is_named, count_in, names_of_lane, names_of_others, pushed_in, pushed_elsewhere, open_pushed}
 
 -- The operation that is said has no cause by what stands before it.
-abbrev MayStand : ℕ → ScriptContents → Option Said → Type 0
-MayStand sources contents (Some (said.Operation lane op)) = least_script_cause (standing_causes sources contents lane op) ≡ None
+abbrev MayStand : ℕ → ScriptContents → Option Statement → Type 0
+MayStand sources contents (Some (statements.Operation lane op)) = least_script_cause (standing_causes sources contents lane op) ≡ None
 MayStand sources contents _ = Unit {0}
 
 three_of_five : (a b c d e : Bool) → least_script_cause ((causes.HoldTwice, a) ∷ (causes.HoldUnknown, b) ∷ (causes.TooManyHolds, c) ∷ (causes.SourceIndex, d) ∷ (causes.Limit, e) ∷ []) ≡ None → (a ≡ false) × (b ≡ false) × (c ≡ false)
@@ -47,12 +48,12 @@ behind_two false true rows h = cc
 begins_well : (lane : ℕ) (holds : List OpenHold) (begun : Option (List ℕ)) → is_held_twice lane holds begun ≡ false → is_crowded lane holds begun ≡ false → may_begin (names_in lane holds) begun ≡ true
 begins_well lane holds None twice crowded = refl
 begins_well lane holds (Some name) twice crowded =
-    by_tests (is_open lane name holds) (is_among_names name (names_in lane holds)) (length (names_in lane holds)) (open_is_named lane name holds) twice (ap (λ (n : ℕ). not (is_open lane name holds) && nat_le 7 n) (count_in lane holds) ∙ crowded)
+    by_tests (is_open lane name holds) (is_among_names name (names_in lane holds)) (length (names_in lane holds)) (open_is_named lane name holds) twice (ap (λ (n : ℕ). not (is_open lane name holds) && nat_le MOST_HOLDS n) (count_in lane holds) ∙ crowded)
   where
-    few : (count : ℕ) → nat_le 7 count ≡ false → nat_lt count 7 ≡ true
+    few : (count : ℕ) → nat_le MOST_HOLDS count ≡ false → nat_lt count MOST_HOLDS ≡ true
     few count crowded = grind arith
 
-    by_tests : (here named : Bool) (count : ℕ) → here ≡ named → here ≡ false → (not here && nat_le 7 count) ≡ false → (not named && nat_lt count 7) ≡ true
+    by_tests : (here named : Bool) (count : ℕ) → here ≡ named → here ≡ false → (not here && nat_le MOST_HOLDS count) ≡ false → (not named && nat_lt count MOST_HOLDS) ≡ true
     by_tests true named count same twice crowded = cc
     by_tests false true count same twice crowded = cc
     by_tests false false count same twice crowded = few count crowded
@@ -71,7 +72,7 @@ stands_well sources contents lane op none =
     let facts = three_of_five (is_held_twice lane contents.holds (hold_begun op)) (is_unknown lane contents.holds (hold_needed op)) (is_crowded lane contents.holds (hold_begun op)) (is_missing sources (source_asked op)) (is_late contents op) none in
     rw (begins_well lane contents.holds (hold_begun op) facts.0 facts.2) (needs_well lane contents.holds (hold_needed op) facts.1)
 
-by_parts : (sources : ℕ) (contents : ScriptContents) (a b : Bool) (lane_word : Option ℕ) (op_words : Option Op) (lane : ℕ) (op : Op) → least_script_cause ((causes.Op, a) ∷ (causes.Operand, b) ∷ lane_causes sources contents lane_word op_words) ≡ None → (lane_word >>= λ it. op_words >>= λ does. Some (said.Operation it does)) ≡ Some (said.Operation lane op) → least_script_cause (standing_causes sources contents lane op) ≡ None
+by_parts : (sources : ℕ) (contents : ScriptContents) (a b : Bool) (lane_word : Option ℕ) (op_words : Option Op) (lane : ℕ) (op : Op) → least_script_cause ((causes.Op, a) ∷ (causes.Operand, b) ∷ lane_causes sources contents lane_word op_words) ≡ None → (lane_word >>= λ it. op_words >>= λ does. Some (statements.Operation it does)) ≡ Some (statements.Operation lane op) → least_script_cause (standing_causes sources contents lane op) ≡ None
 by_parts sources contents a b None op_words lane op none e = cc
 by_parts sources contents a b (Some it) None lane op none e = cc
 by_parts sources contents a b (Some it) (Some does) lane op none e =
@@ -80,27 +81,27 @@ by_parts sources contents a b (Some it) (Some does) lane op none e =
     let stands = behind_two a b (standing_causes sources contents it does) none in
     rw (same_lane, same_op) at stands
 
-not_lanes : (lanes : Option ℕ) (lane : ℕ) (op : Op) → option_map said.Lanes lanes ≡ Some (said.Operation lane op) → ⊥
+not_lanes : (lanes : Option ℕ) (lane : ℕ) (op : Op) → option_map statements.Lanes lanes ≡ Some (statements.Operation lane op) → ⊥
 not_lanes None lane op e = cc
 not_lanes (Some lanes) lane op e = cc
 
-by_round : (sources : ℕ) (contents : ScriptContents) (lanes : ℕ) (word : List ℕ) (words : List (List ℕ)) (round : Bool) (lane : ℕ) (op : Op) → least_script_cause (if round then round_causes contents words else operation_causes sources contents lanes word words) ≡ None → (if round then Some said.Round else operation_said lanes word words) ≡ Some (said.Operation lane op) → least_script_cause (standing_causes sources contents lane op) ≡ None
+by_round : (sources : ℕ) (contents : ScriptContents) (lanes : ℕ) (word : List ℕ) (words : List (List ℕ)) (round : Bool) (lane : ℕ) (op : Op) → least_script_cause (if round then round_causes contents words else operation_causes sources contents lanes word words) ≡ None → (if round then Some statements.Round else operation_said lanes word words) ≡ Some (statements.Operation lane op) → least_script_cause (standing_causes sources contents lane op) ≡ None
 by_round sources contents lanes word words true lane op none e = cc
 by_round sources contents lanes word words false lane op none e =
     by_parts sources contents _ _ (lane_of lanes word) (op_said words) lane op none e
 
-by_words : (sources : ℕ) (contents : ScriptContents) (lanes : Option ℕ) (words : List (List ℕ)) (it : Option Said) → least_script_cause (word_causes sources contents lanes words) ≡ None → words_say lanes words ≡ it → MayStand sources contents it
+by_words : (sources : ℕ) (contents : ScriptContents) (lanes : Option ℕ) (words : List (List ℕ)) (it : Option Statement) → least_script_cause (word_causes sources contents lanes words) ≡ None → words_say lanes words ≡ it → MayStand sources contents it
 by_words sources contents lanes words None none e = tt
-by_words sources contents lanes words (Some (said.Lanes count)) none e = tt
-by_words sources contents lanes words (Some said.Round) none e = tt
-by_words sources contents None [] (Some (said.Operation lane op)) none e = cc
-by_words sources contents (Some lanes) [] (Some (said.Operation lane op)) none e = cc
-by_words sources contents None (word ∷ words) (Some (said.Operation lane op)) none e =
+by_words sources contents lanes words (Some (statements.Lanes count)) none e = tt
+by_words sources contents lanes words (Some statements.Round) none e = tt
+by_words sources contents None [] (Some (statements.Operation lane op)) none e = cc
+by_words sources contents (Some lanes) [] (Some (statements.Operation lane op)) none e = cc
+by_words sources contents None (word ∷ words) (Some (statements.Operation lane op)) none e =
     absurd (not_lanes (lanes_said (word ∷ words)) lane op e)
-by_words sources contents (Some lanes) (word ∷ words) (Some (said.Operation lane op)) none e =
+by_words sources contents (Some lanes) (word ∷ words) (Some (statements.Operation lane op)) none e =
     by_round sources contents lanes word words (is_round word) lane op none e
 
-ok_parts : (told : Option ScriptCause) (it other : Option Said) → unless_refused told it ≡ Ok other → (told ≡ None) × (it ≡ other)
+ok_parts : (told : Option ScriptCause) (it other : Option Statement) → unless_refused told it ≡ Ok other → (told ≡ None) × (it ≡ other)
 ok_parts None it other e = (refl, cc)
 ok_parts (Some cause) it other e = cc
 
@@ -109,7 +110,7 @@ behind_one false rows h = h
 behind_one true rows h = cc
 
 -- what a line says may stand where it does
-said_stands : (sources : ℕ) (contents : ScriptContents) (line : List ℕ) (it : Option Said) → script_line_says sources contents line ≡ Ok it → MayStand sources contents it
+said_stands : (sources : ℕ) (contents : ScriptContents) (line : List ℕ) (it : Option Statement) → script_line_says sources contents line ≡ Ok it → MayStand sources contents it
 unfolding script_line_says
 said_stands sources contents line it e =
     let parts = ok_parts (least_script_cause (script_line_causes sources contents line)) (words_say contents.lanes (line_words line)) it e in
@@ -211,24 +212,24 @@ operation_done number rounds lane op operations holds left may kept =
         (cases_Bool (lane == other))
 
 -- one more line
-still_held : (sources number : ℕ) (contents : ScriptContents) (it : Option Said) → MayStand sources contents it → AreHeld contents → AreHeld (with_line_said number it contents)
+still_held : (sources number : ℕ) (contents : ScriptContents) (it : Option Statement) → MayStand sources contents it → AreHeld contents → AreHeld (with_line_said number it contents)
 still_held sources number contents None may held = held
-still_held sources number contents (Some (said.Lanes lanes)) may held = held
-still_held sources number contents (Some said.Round) may held =
+still_held sources number contents (Some (statements.Lanes lanes)) may held = held
+still_held sources number contents (Some statements.Round) may held =
     round_begun contents.rounds contents.operations contents.holds contents.left held
-still_held sources number contents (Some (said.Operation lane op)) may held =
+still_held sources number contents (Some (statements.Operation lane op)) may held =
     operation_done number contents.rounds lane op contents.operations contents.holds contents.left (stands_well sources contents lane op may) held
 
 -- what each line keeps, all lines keep
-kept_after : (P : ScriptContents → Type 0) (sources : ℕ) (step : (number : ℕ) (contents : ScriptContents) (it : Option Said) → MayStand sources contents it → P contents → P (with_line_said number it contents)) (lines : List (List ℕ)) (contents : ScriptContents) (number : ℕ) (after : ScriptContents) → P contents → script_contents_after sources contents number lines ≡ Ok after → P after
+kept_after : (P : ScriptContents → Type 0) (sources : ℕ) (step : (number : ℕ) (contents : ScriptContents) (it : Option Statement) → MayStand sources contents it → P contents → P (with_line_said number it contents)) (lines : List (List ℕ)) (contents : ScriptContents) (number : ℕ) (after : ScriptContents) → P contents → script_contents_after sources contents number lines ≡ Ok after → P after
 kept_after P sources step [] contents number after kept e =
     let all : Ok contents ≡ Ok after = sym (after_none sources contents number) ∙ e in
     let same : contents ≡ after = cc in subst P same kept
 kept_after P sources step (line ∷ lines) contents number after kept e =
     by_line (script_line_says sources contents line) refl e
-    (λ (it : Option Said) (next : P (with_line_said number it contents)) (given : script_contents_after sources (with_line_said number it contents) (number + 1) lines ≡ Ok after). kept_after P sources step lines (with_line_said number it contents) (number + 1) after next given)
+    (λ (it : Option Statement) (next : P (with_line_said number it contents)) (given : script_contents_after sources (with_line_said number it contents) (number + 1) lines ≡ Ok after). kept_after P sources step lines (with_line_said number it contents) (number + 1) after next given)
   where
-    by_line : (outcome : Result (Option Said) ScriptCause) → script_line_says sources contents line ≡ outcome → script_contents_after sources contents number (line ∷ lines) ≡ Ok after → ((it : Option Said) → P (with_line_said number it contents) → script_contents_after sources (with_line_said number it contents) (number + 1) lines ≡ Ok after → P after) → P after
+    by_line : (outcome : Result (Option Statement) ScriptCause) → script_line_says sources contents line ≡ outcome → script_contents_after sources contents number (line ∷ lines) ≡ Ok after → ((it : Option Statement) → P (with_line_said number it contents) → script_contents_after sources (with_line_said number it contents) (number + 1) lines ≡ Ok after → P after) → P after
     by_line (Ok it) says given next =
         next it (step number contents it (said_stands sources contents line it says) kept) (sym (after_said sources contents number line lines it says) ∙ given)
     by_line (Err cause) says given next =
@@ -243,7 +244,7 @@ none_held =
       later = λ lane round behind. refl;
     }
 
-kept_of : (P : ScriptContents → Type 0) (sources : ℕ) (step : (number : ℕ) (contents : ScriptContents) (it : Option Said) → MayStand sources contents it → P contents → P (with_line_said number it contents)) (text : List ℕ) (contents : ScriptContents) → P no_script_contents → script_contents_of sources text ≡ Ok contents → P contents
+kept_of : (P : ScriptContents → Type 0) (sources : ℕ) (step : (number : ℕ) (contents : ScriptContents) (it : Option Statement) → MayStand sources contents it → P contents → P (with_line_said number it contents)) (text : List ℕ) (contents : ScriptContents) → P no_script_contents → script_contents_of sources text ≡ Ok contents → P contents
 unfolding script_contents_of
 kept_of P sources step text contents none e =
     by_test (are_blank (lines_of text)) (blank_fault (lines_of text)) (script_contents_after sources no_script_contents 1 (lines_of text)) e (λ (given : script_contents_after sources no_script_contents 1 (lines_of text) ≡ Ok contents). kept_after P sources step (lines_of text) no_script_contents 1 contents none given)
@@ -280,11 +281,11 @@ abbrev AreKnown : ℕ → ScriptContents → Type 0
 AreKnown sources contents = KeepsSources sources contents.operations
 
 -- one more line asks for no text that isn't there
-still_known : (sources number : ℕ) (contents : ScriptContents) (it : Option Said) → MayStand sources contents it → AreKnown sources contents → AreKnown sources (with_line_said number it contents)
+still_known : (sources number : ℕ) (contents : ScriptContents) (it : Option Statement) → MayStand sources contents it → AreKnown sources contents → AreKnown sources (with_line_said number it contents)
 still_known sources number contents None may known = known
-still_known sources number contents (Some (said.Lanes lanes)) may known = known
-still_known sources number contents (Some said.Round) may known = known
-still_known sources number contents (Some (said.Operation lane op)) may known =
+still_known sources number contents (Some (statements.Lanes lanes)) may known = known
+still_known sources number contents (Some statements.Round) may known = known
+still_known sources number contents (Some (statements.Operation lane op)) may known =
     let missing = fourth_of_five (is_held_twice lane contents.holds (hold_begun op)) (is_unknown lane contents.holds (hold_needed op)) (is_crowded lane contents.holds (hold_begun op)) (is_missing sources (source_asked op)) (is_late contents op) may in
     let done : Operation = record { line = number; round = contents.rounds; lane = lane; op = op } in
     list_all-append (is_there sources) contents.operations (done ∷ [])

@@ -5,6 +5,7 @@ use Rattle.std.proofs.lemmas.Bool.{and_parts}
 use Rattle.std.proofs.lemmas.List.{append_assoc}
 use Rattle.tz_types.specs.Order.{ascends, ascends_after}
 use Rattle.tz_script.specs.Inside.{stands_before, all_stand_before, is_no_later, RoundsDontFall, IsOrderly}
+use Rattle.tz_script.specs.declared.limit.TheConstants.{MOST_LANES}
 use Rattle.tz_script.specs.declared.operation.Operation.{Operation}
 
 both_hold : (a b : Bool) → a ≡ true → b ≡ true → (a && b) ≡ true
@@ -31,23 +32,6 @@ module _ {A : Type 0} (test : A → A → Bool) (carries : (x y z : A) → test 
   in_order all before middle later a b up is =
       let parts : all ≡ before ++ a ∷ (middle ++ b ∷ later) = is ∙ append_assoc before (a ∷ middle) (b ∷ later) in
       reaches a middle b later (onward before a (middle ++ b ∷ later) (sym (ap (ascends test) parts) ∙ up))
-
-  reaches_all : (here : A) (low : A) (later : List A) → test here low ≡ true → ascends_after test low later ≡ true → list_all (test here) later ≡ true
-  reaches_all here low [] first up = refl
-  reaches_all here low (next ∷ later) first up =
-      let both = and_parts (test low next) (ascends_after test next later) up in
-      let reached = carries here low next first both.0 in
-      both_hold (test here next) (list_all (test here) later) reached (reaches_all here next later reached both.1)
-
-  all_after : (here : A) (later : List A) → ascends_after test here later ≡ true → list_all (test here) later ≡ true
-  all_after here [] up = refl
-  all_after here (next ∷ later) up =
-      let both = and_parts (test here next) (ascends_after test next later) up in
-      both_hold (test here next) (list_all (test here) later) both.0 (reaches_all here next later both.0 both.1)
-
-  pub all_behind : (all before later : List A) (here : A) → ascends test all ≡ true → all ≡ before ++ here ∷ later → list_all (test here) later ≡ true
-  all_behind all before later here up is =
-      all_after here later (onward before here later (sym (ap (ascends test) is) ∙ up))
 
   all_reach : (first : A) (before : List A) (here : A) (later : List A) → ascends_after test first (before ++ here ∷ later) ≡ true → list_all (λ it. test it here) (first ∷ before) ≡ true
   all_reach first [] here later up =
@@ -90,26 +74,14 @@ rounds_dont_fall operations before middle later a b up is =
 pub rounds_before : (operations before later : List Operation) (here : Operation) → RoundsDontFall operations → operations ≡ before ++ here ∷ later → IsTrue (list_all (λ it. is_no_later it here) before)
 rounds_before operations before later here up is = all_before is_no_later rounds_carry operations before later here up is
 
--- no operation behind this one is of an earlier round
-pub rounds_behind : (operations before later : List Operation) (here : Operation) → RoundsDontFall operations → operations ≡ before ++ here ∷ later → IsTrue (list_all (is_no_later here) later)
-rounds_behind operations before later here up is = all_behind is_no_later rounds_carry operations before later here up is
-
 -- lines rise from an operation to any later one
 pub lines_rise : (operations before middle later : List Operation) (a b : Operation) → IsTrue (ascends stands_before operations) → operations ≡ before ++ a ∷ middle ++ b ∷ later → a.line < b.line
 lines_rise operations before middle later a b up is =
     from_lt a.line b.line (in_order stands_before lines_carry operations before middle later a b up is)
 
--- all operations before this one stand at lines before its own
-pub lines_before : (operations before later : List Operation) (here : Operation) → IsTrue (ascends stands_before operations) → operations ≡ before ++ here ∷ later → IsTrue (all_stand_before here.line before)
-lines_before operations before later here up is = all_before stands_before lines_carry operations before later here up is
-
--- it stands at a line before those of all operations behind it
-pub lines_behind : (operations before later : List Operation) (here : Operation) → IsTrue (ascends stands_before operations) → operations ≡ before ++ here ∷ later → IsTrue (list_all (stands_before here) later)
-lines_behind operations before later here up is = all_behind stands_before lines_carry operations before later here up is
-
 -- there is one lane, as long as the limit is 1
 pub one_lane : (lanes rounds : ℕ) (operations : List Operation) → IsOrderly (Some lanes) rounds operations → lanes ≡ 1
 one_lane lanes rounds operations orderly = only_one lanes orderly.lanes_in
   where
-    only_one : (lanes : ℕ) → IsTrue (nat_le 1 lanes && nat_le lanes 1) → lanes ≡ 1
+    only_one : (lanes : ℕ) → IsTrue (nat_le 1 lanes && nat_le lanes MOST_LANES) → lanes ≡ 1
     only_one lanes inside = grind arith

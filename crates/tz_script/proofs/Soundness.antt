@@ -14,6 +14,7 @@ use Rattle.tz_script.specs.Line.{standing_causes, is_held_twice, is_unknown, is_
 use Rattle.tz_script.specs.Operation.{is_change, hold_begun, hold_needed, source_asked}
 use Rattle.tz_script.specs.Size.{IsSized, AreSized}
 use Rattle.tz_script.specs.declared.cause.ScriptCause.TheVariants as causes
+use Rattle.tz_script.specs.declared.limit.TheConstants.{MOST_OPERATIONS, MOST_CHANGES}
 use Rattle.tz_script.specs.declared.operation.Op.{Op}
 use Rattle.tz_script.specs.declared.operation.Operation.{Operation}
 
@@ -97,7 +98,7 @@ sound_round lanes rounds operations sound =
 within : (low high n : ℕ) → low ≤ n → n ≤ high → is_from_to low high n ≡ true
 within low high n le ge = grind arith
 
-pub sound_operation : (lanes : Option ℕ) (rounds : ℕ) (operations : List Operation) (operation : Operation) → IsOrderly lanes rounds operations → length operations < 65_536 → operation.round ≡ rounds → 1 ≤ rounds → 1 ≤ operation.lane → operation.lane ≤ lane_count lanes → all_stand_before operation.line operations ≡ true → IsOrderly lanes rounds (operations ++ operation ∷ [])
+pub sound_operation : (lanes : Option ℕ) (rounds : ℕ) (operations : List Operation) (operation : Operation) → IsOrderly lanes rounds operations → length operations < MOST_OPERATIONS → operation.round ≡ rounds → 1 ≤ rounds → 1 ≤ operation.lane → operation.lane ≤ lane_count lanes → all_stand_before operation.line operations ≡ true → IsOrderly lanes rounds (operations ++ operation ∷ [])
 sound_operation lanes rounds operations operation sound room here begun low high before =
     record {
       lanes_in = sound.lanes_in;
@@ -133,13 +134,13 @@ not_late sources contents lane op none =
     rw late refl
 
 -- how many operations and changes there are where one more isn't too many
-pub room_for_operation : (contents : ScriptContents) (op : Op) → IsTrue (not (is_late contents op)) → length contents.operations < 65_536
+pub room_for_operation : (contents : ScriptContents) (op : Op) → IsTrue (not (is_late contents op)) → length contents.operations < MOST_OPERATIONS
 room_for_operation contents op may = grind arith
 
-pub room_for_change : (contents : ScriptContents) (op : Op) → IsTrue (not (is_late contents op)) → contents.changes ≤ 4_096 → contents.changes + cond (is_change op) 1 0 ≤ 4_096
+pub room_for_change : (contents : ScriptContents) (op : Op) → IsTrue (not (is_late contents op)) → contents.changes ≤ MOST_CHANGES → contents.changes + cond (is_change op) 1 0 ≤ MOST_CHANGES
 room_for_change contents op may few = by_change (is_change op) (length contents.operations) contents.changes may few
   where
-    by_change : (change : Bool) (operations changes : ℕ) → IsTrue (not (nat_le 65_536 operations || (change && nat_le 4_096 changes))) → changes ≤ 4_096 → changes + cond change 1 0 ≤ 4_096
+    by_change : (change : Bool) (operations changes : ℕ) → IsTrue (not (nat_le MOST_OPERATIONS operations || (change && nat_le MOST_CHANGES changes))) → changes ≤ MOST_CHANGES → changes + cond change 1 0 ≤ MOST_CHANGES
     by_change true operations changes may few = grind arith
     by_change false operations changes may few = omega arith
 

@@ -5,8 +5,8 @@ use Rattle.tz_script.specs.Holds.{longest_open_line, holds_after}
 use Rattle.tz_script.specs.Operation.{is_change}
 use Rattle.tz_script.specs.declared.holds.OpenHold.{OpenHold}
 use Rattle.tz_script.specs.declared.operation.Operation.{Operation}
-use Rattle.tz_script.specs.declared.said.Said.{Said}
-use Rattle.tz_script.specs.declared.said.Said.TheVariants as said
+use Rattle.tz_script.specs.declared.statement.Statement.{Statement}
+use Rattle.tz_script.specs.declared.statement.Statement.TheVariants as statements
 
 -- How many lanes there are, once a line has said so; how many rounds have begun; the operations, in the order of their
 -- lines; how many of them are reloads or erasures; the holds that are open in this round; and the line of the first
@@ -28,9 +28,9 @@ abbrev pub first_left : ScriptContents → Option ℕ
 first_left contents = or_else contents.left (longest_open_line contents.holds)
 
 -- the contents with what one more line says, by its number; a blank one says nothing
-abbrev pub with_line_said : ℕ → Option Said → ScriptContents → ScriptContents
+abbrev pub with_line_said : ℕ → Option Statement → ScriptContents → ScriptContents
 with_line_said number None contents = contents
-with_line_said number (Some (said.Lanes lanes)) contents =
+with_line_said number (Some (statements.Lanes lanes)) contents =
     record {
       lanes = Some lanes;
       rounds = contents.rounds;
@@ -39,7 +39,7 @@ with_line_said number (Some (said.Lanes lanes)) contents =
       holds = contents.holds;
       left = contents.left;
     }
-with_line_said number (Some said.Round) contents =
+with_line_said number (Some statements.Round) contents =
     record {
       lanes = contents.lanes;
       rounds = contents.rounds + 1;
@@ -48,7 +48,7 @@ with_line_said number (Some said.Round) contents =
       holds = [];
       left = first_left contents;
     }
-with_line_said number (Some (said.Operation lane op)) contents =
+with_line_said number (Some (statements.Operation lane op)) contents =
     record {
       lanes = contents.lanes;
       rounds = contents.rounds;

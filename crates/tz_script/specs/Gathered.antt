@@ -3,12 +3,12 @@ use Rattle.std.specs.Prelude.{◌≡◌, ◌<◌, ◌≤◌, not, Option, Some, 
 use Rattle.std.specs.Int.{IsInRange}
 use Rattle.tz_script.specs.Contents.{ScriptContents}
 use Rattle.tz_script.specs.Inside.{lane_count}
-use Rattle.tz_script.specs.Limit.{most_lanes, most_rounds}
+use Rattle.tz_script.specs.declared.limit.TheConstants.{MOST_LANES, MOST_ROUNDS}
 use Rattle.tz_script.specs.Line.{is_late}
 use Rattle.tz_script.specs.Size.{IsSized}
 use Rattle.tz_script.specs.declared.gathered.Gathered.{Gathered}
-use Rattle.tz_script.specs.declared.said.Said.{Said}
-use Rattle.tz_script.specs.declared.said.Said.TheVariants as said
+use Rattle.tz_script.specs.declared.statement.Statement.{Statement}
+use Rattle.tz_script.specs.declared.statement.Statement.TheVariants as statements
 
 abbrev pub script_contents_gathered : Gathered → ScriptContents
 script_contents_gathered gathered =
@@ -22,19 +22,19 @@ script_contents_gathered gathered =
     }
 
 -- it is said how many lanes there are, at least 1 and not too many
-abbrev pub AreLanes : Said → Type 0
-AreLanes (said.Lanes lanes) = IsInRange 1 most_lanes lanes
+abbrev pub AreLanes : Statement → Type 0
+AreLanes (statements.Lanes lanes) = IsInRange 1 MOST_LANES lanes
 AreLanes _ = ⊥
 
 -- What is said may stand behind the contents: no line has said yet how many lanes there are, the round isn't one too
 -- many, or the operation has its lane and a round, isn't one too many, and has numbers of their size.
-abbrev pub MayFollow : ScriptContents → Said → Type 0
-MayFollow contents (said.Lanes lanes) = (contents.lanes ≡ None) × IsInRange 1 most_lanes lanes
-MayFollow contents said.Round = contents.rounds < most_rounds
-MayFollow contents (said.Operation lane op) =
+abbrev pub MayFollow : ScriptContents → Statement → Type 0
+MayFollow contents (statements.Lanes lanes) = (contents.lanes ≡ None) × IsInRange 1 MOST_LANES lanes
+MayFollow contents statements.Round = contents.rounds < MOST_ROUNDS
+MayFollow contents (statements.Operation lane op) =
     (1 ≤ contents.rounds) × IsInRange 1 (lane_count contents.lanes) lane × IsTrue (not (is_late contents op)) × IsSized op
 
 -- a blank line may stand anywhere
-abbrev pub MayBeNext : ScriptContents → Option Said → Type 0
+abbrev pub MayBeNext : ScriptContents → Option Statement → Type 0
 MayBeNext contents None = Unit {0}
 MayBeNext contents (Some said) = MayFollow contents said

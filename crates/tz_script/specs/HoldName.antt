@@ -3,7 +3,7 @@ use Rattle.std.specs.Prelude.{ℕ, nat_le, Bool, not, ◌&&◌, ◌||◌, List, 
 use Rattle.std.specs.List.{list_all}
 use Rattle.tz_specs.specs.Number.{is_digit}
 use Rattle.tz_specs.specs.Value.{is_exactly}
-use Rattle.tz_script.specs.Limit.{longest_name}
+use Rattle.tz_script.specs.declared.limit.TheConstants.{LONGEST_HOLD_NAME}
 
 -- an ASCII letter
 abbrev pub is_letter : ℕ → Bool
@@ -20,4 +20,4 @@ is_front word = is_exactly word (codes "front")
 -- 1 to 16 letters and digits, other than `front`
 abbrev pub is_hold_name : List ℕ → Bool
 is_hold_name word =
-    nat_le 1 (length word) && nat_le (length word) longest_name && list_all is_letter_or_digit word && not (is_front word)
+    nat_le 1 (length word) && nat_le (length word) LONGEST_HOLD_NAME && list_all is_letter_or_digit word && not (is_front word)

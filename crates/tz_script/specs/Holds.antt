@@ -2,7 +2,7 @@
 use Rattle.std.specs.Prelude.{ℕ, ◌==◌, nat_le, Bool, not, ◌&&◌, List, [], ◌∷◌, ◌++◌, count_by, Option, Some, None}
 use Rattle.std.specs.List.{filter, list_any}
 use Rattle.tz_specs.specs.Value.{is_exactly}
-use Rattle.tz_script.specs.Limit.{most_holds}
+use Rattle.tz_script.specs.declared.limit.TheConstants.{MOST_HOLDS}
 use Rattle.tz_script.specs.declared.holds.OpenHold.{OpenHold}
 use Rattle.tz_script.specs.declared.operation.Op.{Op}
 use Rattle.tz_script.specs.declared.operation.Op.TheVariants as ops
@@ -17,7 +17,7 @@ is_open lane name holds = list_any (λ hold. is_hold lane name hold) holds
 
 -- the lane has seven holds open
 abbrev pub is_full : ℕ → List OpenHold → Bool
-is_full lane holds = nat_le most_holds (count_by (λ hold. hold.lane == lane) holds)
+is_full lane holds = nat_le MOST_HOLDS (count_by (λ hold. hold.lane == lane) holds)
 
 -- the holds but the one of that lane by that name
 abbrev pub without_hold : ℕ → List ℕ → List OpenHold → List OpenHold

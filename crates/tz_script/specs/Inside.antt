@@ -3,7 +3,7 @@ use Rattle.std.specs.Prelude.{ℕ, ◌≤◌, nat_le, nat_lt, Bool, true, ◌&&�
 use Rattle.std.specs.List.{list_all}
 use Rattle.tz_types.specs.Civil.{is_from_to}
 use Rattle.tz_types.specs.Order.{ascends}
-use Rattle.tz_script.specs.Limit.{most_lanes, most_operations}
+use Rattle.tz_script.specs.declared.limit.TheConstants.{MOST_LANES, MOST_OPERATIONS}
 use Rattle.tz_script.specs.Operation.{is_change}
 use Rattle.tz_script.specs.declared.operation.Operation.{Operation}
 
@@ -15,7 +15,7 @@ lane_count (Some lanes) = lanes
 -- at least 1 and not too many, once a line has said so
 abbrev pub are_lanes : Option ℕ → Bool
 are_lanes None = true
-are_lanes (Some lanes) = is_from_to 1 most_lanes lanes
+are_lanes (Some lanes) = is_from_to 1 MOST_LANES lanes
 
 -- the lane and the round of the operation are among so many
 abbrev pub is_inside : ℕ → ℕ → Operation → Bool
@@ -44,6 +44,6 @@ change_count operations = count_by (λ (operation : Operation). is_change operat
 -- There are not too many lanes and operations, each in its lane and round, and they stand in the order of their lines.
 pub record IsOrderly (lanes : Option ℕ) (rounds : ℕ) (operations : List Operation) : Type 0 where
   pub lanes_in : IsTrue (are_lanes lanes)
-  pub few : length operations ≤ most_operations
+  pub few : length operations ≤ MOST_OPERATIONS
   pub inside : IsTrue (list_all (is_inside (lane_count lanes) rounds) operations)
   pub rising : IsTrue (ascends stands_before operations)

@@ -2,7 +2,7 @@
 use Rattle.std.specs.Prelude.{◌≡◌, ℕ, ◌==◌, nat_lt, Bool, true, not, ◌&&◌, if◌then◌else◌, List, [], ◌∷◌, ◌++◌, length, map, Option, Some, None, IsTrue}
 use Rattle.std.specs.List.{filter, list_all, list_any}
 use Rattle.tz_specs.specs.Value.{is_exactly}
-use Rattle.tz_script.specs.Limit.{most_holds}
+use Rattle.tz_script.specs.declared.limit.TheConstants.{MOST_HOLDS}
 use Rattle.tz_script.specs.Line.{is_missing}
 use Rattle.tz_script.specs.Operation.{hold_begun, hold_needed, source_asked}
 use Rattle.tz_script.specs.declared.operation.Op.{Op}
@@ -24,7 +24,7 @@ is_among_names name names = list_any (λ other. is_exactly other name) names
 -- a hold that begins has another name than those that are open, and these are at most six
 abbrev pub may_begin : List (List ℕ) → Option (List ℕ) → Bool
 may_begin names None = true
-may_begin names (Some name) = not (is_among_names name names) && nat_lt (length names) most_holds
+may_begin names (Some name) = not (is_among_names name names) && nat_lt (length names) MOST_HOLDS
 
 -- the hold that has to be open is
 abbrev pub has_needed : List (List ℕ) → Option (List ℕ) → Bool

@@ -1,4 +1,3 @@
-pub mod Limit
 pub mod Cause
 pub mod HoldName
 pub mod Words

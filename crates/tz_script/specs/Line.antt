@@ -7,7 +7,7 @@ use Rattle.tz_script.specs.Cause.{least_script_cause}
 use Rattle.tz_script.specs.Contents.{ScriptContents}
 use Rattle.tz_script.specs.FirstWord.{first, ends}
 use Rattle.tz_script.specs.Holds.{is_open, is_full}
-use Rattle.tz_script.specs.Limit.{most_rounds, most_operations, most_changes}
+use Rattle.tz_script.specs.declared.limit.TheConstants.{MOST_ROUNDS, MOST_OPERATIONS, MOST_CHANGES}
 use Rattle.tz_script.specs.Operand.{counted_of, lanes_word_of, lane_count_of}
 use Rattle.tz_script.specs.Operation.{hold_begun, hold_needed, source_asked, is_change}
 use Rattle.tz_script.specs.OpWords.{keyword_first, op_said}
@@ -16,8 +16,8 @@ use Rattle.tz_script.specs.declared.cause.ScriptCause.{ScriptCause}
 use Rattle.tz_script.specs.declared.cause.ScriptCause.TheVariants as causes
 use Rattle.tz_script.specs.declared.holds.OpenHold.{OpenHold}
 use Rattle.tz_script.specs.declared.operation.Op.{Op}
-use Rattle.tz_script.specs.declared.said.Said.{Said}
-use Rattle.tz_script.specs.declared.said.Said.TheVariants as said
+use Rattle.tz_script.specs.declared.statement.Statement.{Statement}
+use Rattle.tz_script.specs.declared.statement.Statement.TheVariants as statements
 
 -- The first line that isn't blank: `lanes N`.
 
@@ -39,7 +39,7 @@ has_word (word ∷ words) = true
 -- words follow, or it is the 1,025th round
 abbrev pub round_causes : ScriptContents → List (List ℕ) → List (ScriptCause × Bool)
 round_causes contents words =
-    (causes.Operand, has_word words) ∷ (causes.Limit, nat_le most_rounds contents.rounds) ∷ []
+    (causes.Operand, has_word words) ∷ (causes.Limit, nat_le MOST_ROUNDS contents.rounds) ∷ []
 
 -- An operation, by the number of lanes, the word of its lane and the words behind it.
 
@@ -70,7 +70,7 @@ is_missing sources (Some src) = nat_le sources src
 
 -- it is the 65,537th operation, or the 4,097th reload or erasure
 abbrev pub is_late : ScriptContents → Op → Bool
-is_late contents op = nat_le most_operations (length contents.operations) || (is_change op && nat_le most_changes contents.changes)
+is_late contents op = nat_le MOST_OPERATIONS (length contents.operations) || (is_change op && nat_le MOST_CHANGES contents.changes)
 
 -- the causes of an operation of a lane
 abbrev pub standing_causes : ℕ → ScriptContents → ℕ → Op → List (ScriptCause × Bool)
@@ -97,9 +97,9 @@ operation_causes sources contents lanes word words =
     op_causes contents words ++ lane_causes sources contents (lane_of lanes word) (op_said words)
 
 -- the operation and its lane
-abbrev pub operation_said : ℕ → List ℕ → List (List ℕ) → Option Said
+abbrev pub operation_said : ℕ → List ℕ → List (List ℕ) → Option Statement
 operation_said lanes word words =
-    lane_of lanes word >>= λ lane. op_said words >>= λ op. Some (said.Operation lane op)
+    lane_of lanes word >>= λ lane. op_said words >>= λ op. Some (statements.Operation lane op)
 
 -- Any line.
 
@@ -115,10 +115,10 @@ word_causes sources contents (Some lanes) (word ∷ words) =
     if is_round word then round_causes contents words else operation_causes sources contents lanes word words
 
 -- what the words say
-abbrev pub words_say : Option ℕ → List (List ℕ) → Option Said
+abbrev pub words_say : Option ℕ → List (List ℕ) → Option Statement
 words_say lanes [] = None
-words_say None (word ∷ words) = option_map said.Lanes (lanes_said (word ∷ words))
-words_say (Some lanes) (word ∷ words) = if is_round word then Some said.Round else operation_said lanes word words
+words_say None (word ∷ words) = option_map statements.Lanes (lanes_said (word ∷ words))
+words_say (Some lanes) (word ∷ words) = if is_round word then Some statements.Round else operation_said lanes word words
 
 -- the causes of a line, in rising order
 abbrev pub script_line_causes : ℕ → ScriptContents → List ℕ → List (ScriptCause × Bool)
@@ -131,6 +131,6 @@ unless_refused None x = Ok x
 unless_refused (Some cause) x = Err cause
 
 -- the least cause of a line, or else what it says; a blank line says nothing
-unfoldable pub script_line_says : ℕ → ScriptContents → List ℕ → Result (Option Said) ScriptCause
+unfoldable pub script_line_says : ℕ → ScriptContents → List ℕ → Result (Option Statement) ScriptCause
 script_line_says sources contents line =
     unless_refused (least_script_cause (script_line_causes sources contents line)) (words_say contents.lanes (line_words line))

@@ -5,6 +5,7 @@ use Rattle.tz_text.specs.LocalTime.{local_time_of}
 use Rattle.tz_script.specs.Keyword.{keyword_of}
 use Rattle.tz_script.specs.declared.keyword.Keyword.{Keyword}
 use Rattle.tz_script.specs.declared.keyword.Keyword.TheVariants as keywords
+use Rattle.tz_script.specs.declared.limit.TheConstants.{LAST_SOURCE, LONGEST_STEP, MOST_SCANNED}
 use Rattle.tz_script.specs.declared.operation.Op.{Op}
 use Rattle.tz_script.specs.declared.operation.Op.TheVariants as ops
 use Rattle.tz_script.specs.FirstWord.{first, ends}
@@ -49,8 +50,8 @@ scan_op words = do
   v ← first pick_of words
   zone ← first zone_name_of v.1
   from ← first signed_of zone.1
-  step ← first (counted_of 1 4_294_967_295) from.1
-  count ← first (counted_of 1 65_536) step.1
+  step ← first (counted_of 1 LONGEST_STEP) from.1
+  count ← first (counted_of 1 MOST_SCANNED) step.1
   ends (ops.Scan v.0 zone.0 from.0 step.0 count.0) count.1
 
 -- V CONV X
@@ -63,7 +64,7 @@ clock_op words = do
 
 -- SRC
 unfoldable pub reload_op : List (List ℕ) → Option Op
-reload_op words = first (counted_of 0 63) words >>= λ src. ends (ops.Reload src.0) src.1
+reload_op words = first (counted_of 0 LAST_SOURCE) words >>= λ src. ends (ops.Reload src.0) src.1
 
 -- V
 unfoldable pub erase_op : List (List ℕ) → Option Op

@@ -3,6 +3,7 @@ use Rattle.std.specs.Prelude.{ℕ, ◌==◌, nat_le, Bool, false, not, ◌&&◌,
 use Rattle.std.specs.List.{list_all}
 use Rattle.tz_types.specs.Civil.{is_from_to}
 use Rattle.tz_types.specs.Text.{is_printable}
+use Rattle.tz_types.specs.declared.limit.TheConstants.{LONGEST_NAME}
 use Rattle.tz_types.specs.declared.range.Choose.{Choose}
 use Rattle.tz_types.specs.declared.range.Choose.TheVariants.{Earliest, Latest}
 use Rattle.tz_specs.specs.Choice.{◌>>=◌, only_if}
@@ -12,7 +13,7 @@ use Rattle.tz_output.specs.Conversion.{conversion_word}
 use Rattle.tz_output.specs.declared.conversion.Conversion.{Conversion}
 use Rattle.tz_output.specs.declared.conversion.Conversion.TheVariants as conversions
 use Rattle.tz_script.specs.HoldName.{is_front, is_hold_name}
-use Rattle.tz_script.specs.Limit.{most_lanes}
+use Rattle.tz_script.specs.declared.limit.TheConstants.{MOST_LANES}
 use Rattle.tz_script.specs.declared.operation.Pick.{Pick}
 use Rattle.tz_script.specs.declared.operation.Pick.TheVariants.{Front, Held}
 
@@ -27,7 +28,7 @@ pick_of word = if is_front word then Some Front else option_map Held (hold_name_
 -- The name of a zone: a word of at most 255 bytes. A word before a comment has a byte, and none but visible ones.
 abbrev pub zone_name_of : List ℕ → Option (List ℕ)
 zone_name_of word =
-    only_if (nat_le 1 (length word) && nat_le (length word) 255 && list_all is_printable word) word
+    only_if (nat_le 1 (length word) && nat_le (length word) LONGEST_NAME && list_all is_printable word) word
 
 -- a number with an optional `-` and at most 15 digits
 abbrev pub signed_of : List ℕ → Option ℤ
@@ -66,4 +67,4 @@ begins_with_zero (byte ∷ bytes) = byte == 0x30
 
 -- how many lanes there are: at least 1 and not too many, without leading zeros
 abbrev pub lane_count_of : List ℕ → Option ℕ
-lane_count_of word = only_if (not (begins_with_zero word)) word >>= counted_of 1 most_lanes
+lane_count_of word = only_if (not (begins_with_zero word)) word >>= counted_of 1 MOST_LANES

@@ -3,6 +3,7 @@ use Rattle.std.specs.Prelude.{ℕ, ℤ, List, Option, Some, None, IfSome}
 use Rattle.std.specs.Int.{IsInRange}
 use Rattle.std.specs.List.{All}
 use Rattle.jiff_core.specs.Calendar.{IsWithin}
+use Rattle.tz_script.specs.declared.limit.TheConstants.{LONGEST_STEP, MOST_SCANNED}
 use Rattle.tz_script.specs.declared.operation.Op.{Op}
 use Rattle.tz_script.specs.declared.operation.Op.TheVariants as ops
 use Rattle.tz_script.specs.declared.operation.Operation.{Operation}
@@ -31,8 +32,8 @@ count_asked _ = None
 -- The numbers are as great as their digits and their ranges allow. A local time is bounded only as its range is.
 abbrev pub IsSized : Op → Type 0
 IsSized op =
-    IfSome (number_asked op) (IsWithin most_signed) × IfSome (step_asked op) (IsInRange 1 4_294_967_295)
-    × IfSome (count_asked op) (IsInRange 1 65_536)
+    IfSome (number_asked op) (IsWithin most_signed) × IfSome (step_asked op) (IsInRange 1 LONGEST_STEP)
+    × IfSome (count_asked op) (IsInRange 1 MOST_SCANNED)
 
 -- those of all operations are
 abbrev pub AreSized : List Operation → Type 0

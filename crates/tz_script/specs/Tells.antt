@@ -1,5 +1,6 @@
 -- What a step of reading comes to, by its causes.
 use Rattle.std.specs.Prelude.{◌≡◌, ℕ, Bool, List, Option, Some, None, Result, Ok, Err}
+use Rattle.tz_types.specs.Reason.{HasReason}
 use Rattle.tz_types.specs.declared.fault.LineFault.{LineFault}
 use Rattle.tz_script.specs.Cause.{least_script_cause}
 use Rattle.tz_script.specs.Contents.{ScriptContents}
@@ -19,15 +20,18 @@ abbrev pub TellsSaid : {A : Type 0} → List (ScriptCause × Bool) → Option A 
 TellsSaid rows said (Ok told) = (least_script_cause rows ≡ None) × (said ≡ Some told)
 TellsSaid rows said (Err cause) = least_script_cause rows ≡ Some cause
 
--- Want of memory may come at any time; a fault comes only where it is the outcome.
-abbrev pub MeansScriptFault : {A : Type 0} → ScriptError → Result A LineFault → Type 0
-MeansScriptFault errors.NoMemory outcome = Unit {0}
-MeansScriptFault (errors.Fault fault) outcome = outcome ≡ Err fault
+-- the fault that an error tells; want of memory tells none
+abbrev pub script_fault_of : ScriptError → Option LineFault
+script_fault_of errors.NoMemory = None
+script_fault_of (errors.Fault fault) = Some fault
 
--- Want of memory may come at any time; a fault is that of the contents as a whole.
+-- a fault comes only where it is the outcome
+abbrev pub MeansScriptFault : {A : Type 0} → ScriptError → Result A LineFault → Type 0
+MeansScriptFault error outcome = HasReason (λ fault. outcome ≡ Err fault) (script_fault_of error)
+
+-- a fault is that of the contents as a whole
 abbrev pub MeansWholeScriptFault : ScriptError → ScriptContents → Type 0
-MeansWholeScriptFault errors.NoMemory contents = Unit {0}
-MeansWholeScriptFault (errors.Fault fault) contents = whole_fault contents ≡ Some fault
+MeansWholeScriptFault error contents = HasReason (λ fault. whole_fault contents ≡ Some fault) (script_fault_of error)
 
 -- the contents have no fault as a whole, and the script is what they give
 pub record IsScriptOf (contents : ScriptContents) (script : Script) : Type 0 where
@@ -36,7 +40,6 @@ pub record IsScriptOf (contents : ScriptContents) (script : Script) : Type 0 whe
   pub rounds : script.rounds ≡ contents.rounds
   pub operations : script.operations ≡ contents.operations
 
--- Want of memory may come at any time; a fault comes only where the text is refused with it.
+-- a fault comes only where the text is refused with it
 abbrev pub MeansScriptRefusal : ScriptError → ℕ → List ℕ → Type 0
-MeansScriptRefusal errors.NoMemory sources text = Unit {0}
-MeansScriptRefusal (errors.Fault fault) sources text = RefusesScript sources text fault
+MeansScriptRefusal error sources text = HasReason (RefusesScript sources text) (script_fault_of error)

@@ -5,7 +5,7 @@ use Rattle.tz_types.specs.Text.{is_printable}
 use Rattle.tz_specs.specs.Line.{line_length}
 use Rattle.tz_specs.specs.Parts.{onto_part}
 use Rattle.tz_specs.specs.Word.{is_empty}
-use Rattle.tz_script.specs.Limit.{longest_line}
+use Rattle.tz_script.specs.declared.limit.TheConstants.{LONGEST_LINE}
 
 -- a space, a tab or a carriage return
 abbrev pub is_space : ℕ → Bool
@@ -40,4 +40,4 @@ line_words line = script_words (before_comment line)
 
 -- the line is longer than 512 bytes with its newline, or has before its comment a byte that may not stand there
 abbrev pub is_bad_line : List ℕ → Bool
-is_bad_line line = nat_lt longest_line (line_length line) || not (list_all is_script_byte (before_comment line))
+is_bad_line line = nat_lt LONGEST_LINE (line_length line) || not (list_all is_script_byte (before_comment line))

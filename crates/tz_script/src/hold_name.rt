@@ -4,6 +4,7 @@ ghost use Rattle.std.specs.List.{list_all};
 ghost use Rattle.tz_specs.specs.Choice.{only_if};
 ghost use Rattle.tz_script.specs.HoldName.{is_letter_or_digit, is_front, is_hold_name};
 
+use crate::limit::LONGEST_HOLD_NAME;
 use crate::words::is_exactly;
 use std::marker::Model;
 use tz_types::PrintableText;
@@ -11,7 +12,7 @@ use tz_types::PrintableText;
 /// The name of a hold: 1 to 16 ASCII letters and digits, other than `front`.
 #[derive(Debug, PartialEq, Eq, PartialOrd, Ord, Hash, Drop)]
 pub struct HoldName {
-    text: PrintableText<1, 16>,
+    text: PrintableText<1, LONGEST_HOLD_NAME>,
 }
 
 impl Model for HoldName {

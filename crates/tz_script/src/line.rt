@@ -3,7 +3,7 @@ ghost use Rattle.std.specs.Prelude.{◌≡◌, ◌∷◌, ◌<◌, Some, Ok, Err
 ghost use Rattle.std.specs.Int.{IsInRange};
 ghost use Rattle.tz_script.specs.Cause.{least_script_cause};
 ghost use Rattle.tz_script.specs.Gathered.{script_contents_gathered, AreLanes, MayFollow, MayBeNext};
-ghost use Rattle.tz_script.specs.Limit.{most_lanes};
+ghost use Rattle.tz_script.specs.declared.limit.TheConstants.{MOST_LANES};
 ghost use Rattle.tz_script.specs.Line.{lanes_said, first_causes, round_causes, op_causes, is_held_twice, is_unknown, is_crowded, is_missing, is_late, standing_causes, operation_causes, operation_said, word_causes, words_say, script_line_says};
 ghost use Rattle.tz_script.specs.Operation.{hold_begun, hold_needed, source_asked};
 ghost use Rattle.tz_script.specs.OpWords.{op_said};
@@ -19,14 +19,14 @@ use crate::limit::{MOST_CHANGES, MOST_OPERATIONS, MOST_ROUNDS};
 use crate::op_reader::{keyword, op};
 use crate::operand::{counted_of, lane_count_of};
 use crate::operation::Op;
-use crate::said::Said;
+use crate::statement::Statement;
 use crate::words::{before_comment, is_bad_line, is_exactly, next_word};
 
 /// How many lanes there are, by the words `lanes N`.
 #[tactic(auto, unfolding(crate::specs::Line::lanes_said))]
 fn lanes(text: &[u8]) -> Option<u32>
     ensures value { result ≡ lanes_said (script_words text.now) }
-    ensures bound { IfSome result (IsInRange 1 most_lanes) }
+    ensures bound { IfSome result (IsInRange 1 MOST_LANES) }
 {
     let (word, rest) = next_word(text)?;
     if !is_exactly(word, b"lanes") {
@@ -41,19 +41,19 @@ fn lanes(text: &[u8]) -> Option<u32>
 }
 
 /// The first line that isn't blank.
-fn first_line(text: &[u8]) -> Result<Said, ScriptCause>
-    ensures told { TellsSaid (first_causes (script_words text.now)) (option_map Said.Lanes (lanes_said (script_words text.now))) result }
+fn first_line(text: &[u8]) -> Result<Statement, ScriptCause>
+    ensures told { TellsSaid (first_causes (script_words text.now)) (option_map Statement.Lanes (lanes_said (script_words text.now))) result }
     ensures bound { IfOk result AreLanes }
 {
     match lanes(text) {
-        Some(lanes) => Ok(Said::Lanes(lanes)),
+        Some(lanes) => Ok(Statement::Lanes(lanes)),
         None => Err(ScriptCause::Lanes),
     }
 }
 
 /// A round, behind whose word the text stands.
-fn round(text: &[u8], gathered: &Gathered) -> Result<Said, ScriptCause>
-    ensures told { TellsSaid (round_causes (script_contents_gathered gathered.now) (script_words text.now)) (Some Said.Round) result }
+fn round(text: &[u8], gathered: &Gathered) -> Result<Statement, ScriptCause>
+    ensures told { TellsSaid (round_causes (script_contents_gathered gathered.now) (script_words text.now)) (Some Statement.Round) result }
     ensures may { IfOk result (λ said. MayFollow (script_contents_gathered gathered.now) said) }
 {
     if next_word(text).is_some() {
@@ -62,7 +62,7 @@ fn round(text: &[u8], gathered: &Gathered) -> Result<Said, ScriptCause>
     if gathered.rounds >= MOST_ROUNDS {
         return Err(ScriptCause::Limit);
     }
-    Ok(Said::Round)
+    Ok(Statement::Round)
 }
 
 /// The operation that the words say.
@@ -158,7 +158,7 @@ fn operation(
     lanes: u32,
     sources: u32,
     gathered: &Gathered,
-) -> Result<Said, ScriptCause>
+) -> Result<Statement, ScriptCause>
     requires { gathered.now.lanes ≡ Some lanes }
     ensures told { TellsSaid (operation_causes sources (script_contents_gathered gathered.now) lanes word.now (script_words text.now)) (operation_said lanes word.now (script_words text.now)) result }
     ensures may { IfOk result (λ said. MayFollow (script_contents_gathered gathered.now) said) }
@@ -172,7 +172,7 @@ fn operation(
     };
     match standing_cause(gathered, sources, lane, &op) {
         Some(cause) => Err(cause),
-        None => Ok(Said::Operation { lane, op }),
+        None => Ok(Statement::Operation { lane, op }),
     }
 }
 
@@ -183,7 +183,7 @@ fn later_line(
     lanes: u32,
     sources: u32,
     gathered: &Gathered,
-) -> Result<Said, ScriptCause>
+) -> Result<Statement, ScriptCause>
     requires { gathered.now.lanes ≡ Some lanes }
     ensures told { TellsSaid (word_causes sources (script_contents_gathered gathered.now) (Some lanes) (word.now ∷ script_words text.now)) (words_say (Some lanes) (word.now ∷ script_words text.now)) result }
     ensures may { IfOk result (λ said. MayFollow (script_contents_gathered gathered.now) said) }
@@ -196,7 +196,11 @@ fn later_line(
 }
 
 /// What the words of a line say: nothing where there are none.
-fn words_said(text: &[u8], sources: u32, gathered: &Gathered) -> Result<Option<Said>, ScriptCause>
+fn words_said(
+    text: &[u8],
+    sources: u32,
+    gathered: &Gathered,
+) -> Result<Option<Statement>, ScriptCause>
     ensures told { MeansSaid (word_causes sources (script_contents_gathered gathered.now) gathered.now.lanes (script_words text.now)) (words_say gathered.now.lanes (script_words text.now)) result }
     ensures may { IfOk result (MayBeNext (script_contents_gathered gathered.now)) }
 {
@@ -219,7 +223,7 @@ pub fn read_line(
     line: &[u8],
     sources: u32,
     gathered: &Gathered,
-) -> Result<Option<Said>, ScriptCause>
+) -> Result<Option<Statement>, ScriptCause>
     ensures ok { IfOk result (λ said. script_line_says sources (script_contents_gathered gathered.now) line.now ≡ Ok said) }
     ensures err { IfErr result (λ cause. script_line_says sources (script_contents_gathered gathered.now) line.now ≡ Err cause) }
     ensures may { IfOk result (MayBeNext (script_contents_gathered gathered.now)) }

@@ -7,6 +7,7 @@ ghost use Rattle.tz_script.specs.Size.{IsSized};
 ghost use Rattle.tz_script.specs.Words.{script_words};
 
 use crate::keyword::Keyword;
+use crate::limit::{LAST_SOURCE, LONGEST_STEP, MOST_SCANNED};
 use crate::operand::{choice, conversion, counted, hold_name, local, pick, signed, zone_name};
 use crate::operation::Op;
 use crate::words::next_word;
@@ -90,8 +91,8 @@ fn scan(text: &[u8]) -> Option<Op>
     let (v, rest) = pick(text)?;
     let (zone, rest) = zone_name(rest)?;
     let (from, rest) = signed(rest)?;
-    let (step, rest) = counted(rest, 1, 4_294_967_295)?;
-    let (count, rest) = counted(rest, 1, 65_536)?;
+    let (step, rest) = counted(rest, 1, LONGEST_STEP)?;
+    let (count, rest) = counted(rest, 1, MOST_SCANNED)?;
     let op = Op::Scan {
         v,
         zone,
@@ -118,7 +119,7 @@ fn reload(text: &[u8]) -> Option<Op>
     ensures value { result ≡ reload_op (script_words text.now) }
     ensures sized { IfSome result IsSized }
 {
-    let (src, rest) = counted(text, 0, 63)?;
+    let (src, rest) = counted(text, 0, LAST_SOURCE)?;
     ends(Op::Reload { src }, rest)
 }
 

@@ -3,7 +3,7 @@ ghost use Rattle.std.specs.Prelude.{◌≡◌, IfSome, option_map};
 ghost use Rattle.std.specs.Int.{IsInRange};
 ghost use Rattle.jiff_core.specs.Calendar.{IsWithin};
 ghost use Rattle.tz_text.specs.LocalTime.{local_time_of};
-ghost use Rattle.tz_script.specs.Limit.{most_lanes};
+ghost use Rattle.tz_script.specs.declared.limit.TheConstants.{MOST_LANES};
 ghost use Rattle.tz_script.specs.Size.{most_signed};
 ghost use Rattle.tz_script.specs.Words.{script_words};
 ghost use Rattle.tz_script.specs.Operand.{hold_name_of, pick_of, zone_name_of, signed_of, counted_of, choice_of, conversion_of, lane_count_of};
@@ -90,7 +90,7 @@ fn conversion_of(word: &[u8]) -> Option<Conversion>
 /// How many lanes there are: at least 1 and not too many, without leading zeros.
 pub fn lane_count_of(word: &[u8]) -> Option<u32>
     ensures value { result ≡ lane_count_of word.now }
-    ensures bound { IfSome result (IsInRange 1 most_lanes) }
+    ensures bound { IfSome result (IsInRange 1 MOST_LANES) }
 {
     match word {
         [b'0', ..] => None,

@@ -1,5 +1,6 @@
 //! Scripts by their text.
 ghost use Rattle.std.specs.Prelude.{◌≡◌, ℕ, ◌+◌, ◌≤◌, ◌∷◌, None, Ok, List, length, IfOk, IfErr, OnOk, IsTrue};
+ghost use Rattle.tz_types.specs.declared.limit.TheConstants.{MOST_BYTES};
 ghost use Rattle.tz_specs.specs.Line.{lines_of};
 ghost use Rattle.tz_script.specs.Cause.{script_fault_at};
 ghost use Rattle.tz_script.specs.Contents.{no_script_contents};
@@ -37,7 +38,7 @@ fn take_line(
     sources: u32,
 ) -> Result<(), ScriptError>
     requires before { IsTrue (all_stand_before number gathered.old.operations) }
-    requires few { number ≤ 4_194_304 }
+    requires few { number ≤ MOST_BYTES }
     ensures ok { OnOk result ((lines : List (List ℕ)) →
         script_contents_after sources (script_contents_gathered gathered.old) number (line.now ∷ lines)
         ≡ script_contents_after sources (script_contents_gathered gathered.new) (number + 1) lines) }
@@ -57,7 +58,7 @@ fn take_line(
 
 /// What all lines of a text give, where one of them has a word.
 fn take_lines(alloc: Global, text: &[u8], sources: u32) -> Result<Gathered, ScriptError>
-    requires { length text.now ≤ 4_194_304 }
+    requires { length text.now ≤ MOST_BYTES }
     ensures ok { IfOk result (λ gathered. script_contents_after sources no_script_contents 1 (lines_of text.now) ≡ Ok (script_contents_gathered gathered)) }
     ensures err { IfErr result (λ e. MeansScriptFault e (script_contents_after sources no_script_contents 1 (lines_of text.now))) }
 {
@@ -106,7 +107,7 @@ fn blank_fault(text: &[u8]) -> LineFault
 /// What all lines of a text give.
 #[tactic(auto, unfolding(crate::specs::Script::script_contents_of))]
 fn gather(alloc: Global, text: &[u8], sources: u32) -> Result<Gathered, ScriptError>
-    requires { length text.now ≤ 4_194_304 }
+    requires { length text.now ≤ MOST_BYTES }
     ensures ok { IfOk result (λ gathered. script_contents_of sources text.now ≡ Ok (script_contents_gathered gathered)) }
     ensures err { IfErr result (λ e. MeansScriptFault e (script_contents_of sources text.now)) }
 {
@@ -137,7 +138,7 @@ fn script_of(gathered: Gathered) -> Result<Script, ScriptError>
 
 /// The script of a text, or its fault.
 fn read_whole(alloc: Global, text: &[u8], sources: u32) -> Result<Script, ScriptError>
-    requires { length text.now ≤ 4_194_304 }
+    requires { length text.now ≤ MOST_BYTES }
     ensures ok { IfOk result (λ script. ReadsScript sources text.now script) }
     ensures refused { IfErr result (λ e. MeansScriptRefusal e sources text.now) }
 {
@@ -164,7 +165,7 @@ fn read_whole(alloc: Global, text: &[u8], sources: u32) -> Result<Script, Script
 /// whose hold isn't dropped in its round, with cause 6. A text without a word has cause 8 at line 1, unless that line
 /// has cause 1. `NoMemory` comes where memory runs out.
 pub fn read_script(alloc: Global, text: &[u8], sources: u32) -> Result<Script, ScriptError>
-    requires { length text.now ≤ 4_194_304 }
+    requires { length text.now ≤ MOST_BYTES }
     ensures ok { IfOk result (λ script. ReadsScript sources text.now script) }
     ensures holds { IfOk result (λ script. KeepsHolds script.operations) }
     ensures sources { IfOk result (λ script. KeepsSources sources script.operations) }

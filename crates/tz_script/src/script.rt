@@ -2,7 +2,7 @@
 ghost use Rattle.std.specs.Prelude.{◌≤◌, Some};
 ghost use Rattle.tz_script.specs.Inside.{change_count, IsOrderly, RoundsDontFall};
 ghost use Rattle.tz_script.specs.Keeping.{KeepsHolds};
-ghost use Rattle.tz_script.specs.Limit.{most_rounds, most_changes};
+ghost use Rattle.tz_script.specs.declared.limit.TheConstants.{MOST_ROUNDS, MOST_CHANGES};
 ghost use Rattle.std.proofs.Props.{props};
 ghost use Rattle.tz_script.specs.Size.{AreSized};
 
@@ -18,8 +18,8 @@ pub struct Script {
     pub lanes: u32,
     pub rounds: u32,
     pub operations: Items<Operation>,
-    pub ghost few_rounds: { rounds ≤ most_rounds },
-    pub ghost few_changes: { change_count operations ≤ most_changes },
+    pub ghost few_rounds: { rounds ≤ MOST_ROUNDS },
+    pub ghost few_changes: { change_count operations ≤ MOST_CHANGES },
     pub ghost sound: { IsOrderly (Some lanes) rounds operations },
     pub ghost sized: { AreSized operations } by { Prim.hlevel props },
     pub ghost in_rounds: { RoundsDontFall operations },

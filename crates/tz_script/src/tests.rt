@@ -4,16 +4,13 @@ use std::alloc::Global;
 use std::process::Abort;
 use std::test::Fail;
 use tz_output::Conversion;
-use tz_types::{Choose, Label, LineFault};
-
-/// How long a text may be.
-const MOST: usize = 4_194_304;
+use tz_types::{Choose, Label, LineFault, MOST_BYTES};
 
 /// How many texts there are to reload.
 const SOURCES: u32 = 2;
 
 fn refuses(rt: &impl Abort, alloc: Global, text: &[u8], line: u32, cause: u8) {
-    assert!(rt; text.len() <= MOST);
+    assert!(rt; text.len() <= MOST_BYTES);
     match read_script(alloc, text, SOURCES) {
         Ok(_) => assert!(rt; false, "{text:?}"),
         Err(ScriptError::NoMemory) => assert!(rt; false, "{text:?}"),
@@ -26,7 +23,7 @@ fn refuses(rt: &impl Abort, alloc: Global, text: &[u8], line: u32, cause: u8) {
 }
 
 fn reads(rt: &impl Abort, alloc: Global, text: &[u8], lanes: u32, rounds: u32, operations: usize) {
-    assert!(rt; text.len() <= MOST);
+    assert!(rt; text.len() <= MOST_BYTES);
     match read_script(alloc, text, SOURCES) {
         Ok(script) => {
             assert_eq!(rt; script.lanes, lanes, "{text:?}");

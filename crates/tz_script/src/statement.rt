@@ -3,7 +3,7 @@ use crate::operation::Op;
 
 /// What a line says that isn't blank.
 #[derive(Debug, Drop)]
-pub enum Said {
+pub enum Statement {
     /// How many lanes there are.
     Lanes(u32),
     /// A round begins.
