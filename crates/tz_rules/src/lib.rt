@@ -4,6 +4,15 @@
 //! `until_instant`, the instant at which a line with an UNTIL ends; `InForce`, what is in force, with `letters_before` for
 //! the time before any occurrence is in effect; `abbreviation`, how that time is called; and `build`, which makes the
 //! database of `Parts`, what the lines of a text gave, or else tells the least fault of the text as a whole.
+//!
+//! ```rust
+//! // the rules of the United States from 2007 on, at -5:00, in July of 2024
+//! let mut steps = Steps::<L>::new(blank);
+//! let now = last_at_or_before(&rules, -18_000, 1_720_000_000, &mut steps);
+//! let next = next_after(&rules, -18_000, 1_720_000_000, &mut steps);
+//! assert_eq!(rt; now.map(|taken| taken.at), Some(1_710_054_000));
+//! assert_eq!(rt; next.map(|taken| taken.at), Some(1_730_613_600));
+//! ```
 #![tactic(auto)]
 
 mod database;
