@@ -5,10 +5,12 @@
 //! the time before any occurrence is in effect; and `abbreviation`, how that time is called.
 //!
 //! ```rust
-//! use tz_rules::until_instant;
-//!
-//! // New York's line of local mean time, 4:56:02 behind, ends at 1883 Nov 18 17:00u: no rules, no save
-//! let end = until_instant(None, 0, -17_762, &until);      // -2,717,650,800
+//! // the rules of the United States from 2007 on, at -5:00, in July of 2024
+//! let mut steps = Steps::<L>::new(blank);
+//! let now = last_at_or_before(&rules, -18_000, 1_720_000_000, &mut steps);
+//! let next = next_after(&rules, -18_000, 1_720_000_000, &mut steps);
+//! assert_eq!(rt; now.map(|taken| taken.at), Some(1_710_054_000));
+//! assert_eq!(rt; next.map(|taken| taken.at), Some(1_730_613_600));
 //! ```
 #![tactic(auto)]
 
