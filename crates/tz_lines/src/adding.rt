@@ -1,10 +1,11 @@
 //! What the lines of a text have given so far, with one more record.
 ghost use Rattle.std.specs.Prelude.{◌≡◌, ◌+◌, ◌<◌, ◌≤◌, ◌^◌, ◌||◌, false, nat_lt, length, option_map, IsTrue, IfSome, IfOk, OnOk};
+ghost use Rattle.tz_types.specs.declared.limit.TheConstants.{MOST_TEXT_LINES};
 ghost use Rattle.tz_specs.specs.Written.{written_rule, written_line, RuleRecord, ZoneRecord, Continuation, LinkRecord};
 ghost use Rattle.tz_specs.specs.Contents.{no_contents, at_end_of_file, with_record, with_said};
 ghost use Rattle.tz_records.specs.Entry.{written_entry, written_entry_line};
 ghost use Rattle.tz_records.specs.Counts.{exceeds, exceeds_said};
-ghost use Rattle.tz_rules.specs.Continued.{is_named_by};
+ghost use Rattle.tz_database.specs.Continued.{is_named_by};
 ghost use Rattle.tz_lines.specs.Gathered.{contents_gathered};
 ghost use Rattle.tz_lines.specs.Following.{is_in_place};
 ghost use Rattle.tz_lines.specs.AddingOutcome.{MeansLimit};
@@ -12,13 +13,12 @@ ghost use Rattle.tz_lines.specs.AddingOutcome.{MeansLimit};
 use crate::contents::Gathered;
 use crate::error::AddError;
 use crate::last_zone::{continue_last, zone_of};
-use crate::rule_sets::add_rule;
+use crate::rule_sets::RuleSets;
 use crate::set_names::SetNames;
 use crate::zone_line::zone_line;
 use std::alloc::Global;
-use std::mem;
 use tz_records::{Entry, EntryLine, GivenName};
-use tz_types::{Items, Link, NoMemory, Rule, ZoneLine};
+use tz_types::{Items, Link, MOST_TEXT_LINES, NoMemory, Rule, ZoneLine};
 
 impl Gathered {
     /// Before any line.
@@ -27,8 +27,7 @@ impl Gathered {
         ensures names { length result.names.labels.items ≡ 0 }
     {
         Gathered {
-            sets: Items::new(alloc),
-            last_set: 0,
+            sets: RuleSets::new(alloc),
             names: SetNames::new(alloc),
             zones: Items::new(alloc),
             links: Items::new(alloc),
@@ -42,22 +41,18 @@ impl Gathered {
         ensures contents { OnOk result (contents_gathered self.new ≡ with_record (RuleRecord name.entry.bytes.now (written_rule rule)) (contents_gathered self.old)) }
         ensures names { length self.new.names.labels.items ≡ length self.old.names.labels.items }
     {
-        // `Items` lends none of its elements to be changed, so the whole list is taken out and put back.
-        let mut sets = mem::replace(&mut self.sets, Items::new(alloc)).into_vec();
-        add_rule(alloc, &mut sets, &mut self.last_set, name, rule)?;
-        self.sets = Items::from_vec(sets);
-        Ok(())
+        self.sets.add(alloc, name, rule)
     }
 
     /// The line of a zone that an entry says. The name of its rule set is among the names from then on.
-    fn zone_line(&mut self, entry: EntryLine<'_>) -> Result<ZoneLine, NoMemory>
+    fn zone_line(&mut self, alloc: Global, entry: EntryLine<'_>) -> Result<ZoneLine, NoMemory>
         requires { length self.old.names.labels.items < 2 ^ 32 }
         ensures contents { contents_gathered self.new ≡ contents_gathered self.old }
         ensures line { IfOk result (λ it. written_line self.new.names.labels.items it ≡ written_entry_line entry.entry) }
         ensures named { IfOk result (λ it. IsTrue (is_named_by (length self.new.names.labels.items) it.rules)) }
         ensures names { length self.new.names.labels.items ≤ length self.old.names.labels.items + 1 }
     {
-        zone_line(&mut self.names, entry)
+        zone_line(alloc, &mut self.names, entry)
     }
 
     fn begin_zone(
@@ -74,7 +69,7 @@ impl Gathered {
         if self.exceeds_zones() {
             return Err(AddError::Limit);
         }
-        let line = self.zone_line(entry)?;
+        let line = self.zone_line(alloc, entry)?;
         self.zones.push(zone_of(alloc, name, line)?)?;
         self.begun = true;
         Ok(())
@@ -90,10 +85,8 @@ impl Gathered {
         if self.exceeds_lines() {
             return Err(AddError::Limit);
         }
-        let line = self.zone_line(entry)?;
-        let mut zones = mem::replace(&mut self.zones, Items::new(alloc)).into_vec();
-        continue_last(&mut zones, line)?;
-        self.zones = Items::from_vec(zones);
+        let line = self.zone_line(alloc, entry)?;
+        continue_last(&mut self.zones, line)?;
         Ok(())
     }
 
@@ -155,11 +148,11 @@ impl Gathered {
     ) -> Result<(), AddError>
         requires room { length self.old.names.labels.items < 2 ^ 32 }
         requires in_place { IfSome said (λ entry. IsTrue (is_in_place (contents_gathered self.old) (written_entry entry))) }
-        ensures limit { MeansLimit result (exceeds_said (contents_gathered self.old) (option_map written_entry said.entry) || nat_lt 100_000 number) }
+        ensures limit { MeansLimit result (exceeds_said (contents_gathered self.old) (option_map written_entry said.entry) || nat_lt MOST_TEXT_LINES number) }
         ensures contents { OnOk result (contents_gathered self.new ≡ with_said (option_map written_entry said.entry) (contents_gathered self.old)) }
         ensures names { length self.new.names.labels.items ≤ length self.old.names.labels.items + 1 }
     {
-        if number > 100_000 {
+        if number > MOST_TEXT_LINES {
             return Err(AddError::Limit);
         }
         match said {

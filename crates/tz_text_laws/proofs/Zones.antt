@@ -20,7 +20,7 @@ use Rattle.tz_specs.specs.Written.{WrittenLine, WrittenZone, WrittenLink, set_na
 use Rattle.tz_specs.specs.Contents.{Contents}
 use Rattle.tz_specs.specs.Whole.{fault_where, following_in, unknown_rule, zone_name, repeated_name, is_zone_name, reached, zone_of_link, missing_target}
 use Rattle.tz_specs.proofs.ListLemmas.{none_first, none_second}
-use Rattle.tz_rules.proofs.ZoneTime.{goes_on}
+use Rattle.tz_database.proofs.ZoneTime.{goes_on}
 use Rattle.tz_text_laws.proofs.Choices.{bind_some, only_some, some_same}
 use Rattle.tz_text_laws.proofs.GoodContents.{GoodLines, GoodZone, GoodZones, begins, has_line}
 use Rattle.tz_text_laws.proofs.Continued.{is_whole, are_whole}
