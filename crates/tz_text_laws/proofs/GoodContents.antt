@@ -1,5 +1,5 @@
 -- What the lines of a text give keeps its ranges, orders and counts.
-use Rattle.std.proofs.Common.{◌≡◌, ℕ, zero, suc, ◌+◌, ◌<◌, ◌≤◌, Bool, true, false, not, ◌&&◌, ◌||◌, ◌==◌, nat_le, nat_lt, IsTrue, List, [], ◌∷◌, ◌++◌, length, map, find, drop, Option, Some, None, slice_get, Result, Ok, Err, refl, sym, ap, ◌∙◌, ⊎_elim, arith, subst, length-append}
+use Rattle.std.proofs.Common.{◌≡◌, ℕ, zero, suc, ◌+◌, ◌<◌, ◌≤◌, Bool, true, false, not, ◌&&◌, ◌||◌, nat_le, nat_lt, IsTrue, List, [], ◌∷◌, ◌++◌, length, map, find, drop, Option, Some, None, slice_get, Result, Ok, Err, refl, sym, ap, ◌∙◌, ⊎_elim, arith, subst, length-append}
 use Rattle.std.proofs.lemmas.Bool.{cases_Bool}
 use Rattle.std.proofs.lemmas.Bool.Decides.{nat_tests}
 use Rattle.tz_types.specs.Order.{ascends, ascends_after, name_before}
