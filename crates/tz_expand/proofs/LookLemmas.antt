@@ -9,6 +9,7 @@ use Rattle.std.proofs.lemmas.Int.{ints, clamps, by_lt_z}
 use Rattle.std.proofs.lemmas.Bool.{cases_order}
 use Rattle.jiff_core.specs.Calendar.{IsYear}
 use Rattle.jiff_core.proofs.SignedLemmas.{signed_arith}
+use Rattle.tz_types.specs.declared.limit.TheConstants.{LONGEST_OFFSET}
 use Rattle.tz_types.specs.declared.rule.Rule.{Rule}
 use Rattle.tz_types.specs.Calendar.{LiesInYear}
 use Rattle.tz_types.specs.Year.{IsRuleYear}
@@ -143,7 +144,7 @@ is_span from to before year later_year first last before_is rises first_is last_
     }
 
 -- an occurrence of a year before the stretch's has come two days before it begins
-pub come_before : (rule : Rule) (from year first : ℤ) → rule.from ≤ℤ year → year ≤ℤ rule.to → IsRuleYear year → LiesInYear from (first +ℤ pos 3) → year ≤ℤ (first +ℤ pos 1) → first ≤ℤ pos 10_010 → nominal_second year rule.moment ≤ℤ (from -ℤ pos 172_800)
+pub come_before : (rule : Rule) (from year first : ℤ) → rule.from ≤ℤ year → year ≤ℤ rule.to → IsRuleYear year → LiesInYear from (first +ℤ pos 3) → year ≤ℤ (first +ℤ pos 1) → first ≤ℤ pos 10_010 → nominal_second year rule.moment ≤ℤ (from -ℤ pos LONGEST_OFFSET)
 come_before rule from year first low high within lies before bound =
     let near = nominal_near rule year (year +ℤ pos 1) within low high refl in
     let apart = starts_apart (year +ℤ pos 1) (first +ℤ pos 3) (omega (arith, signed_arith, within)) (omega (arith, signed_arith)) in
@@ -151,7 +152,7 @@ come_before rule from year first low high within lies before bound =
     omega (arith, signed_arith, near.1, apart, begun)
 
 -- and one of a year behind the stretch's comes more than two days after it ends
-pub comes_after : (rule : Rule) (to year last : ℤ) → rule.from ≤ℤ year → year ≤ℤ rule.to → IsRuleYear year → LiesInYear (to -ℤ pos 1) (last -ℤ pos 2) → last ≤ℤ year → neg_ℤ (pos 9_998) ≤ℤ last → (to +ℤ pos 172_800) <ℤ nominal_second year rule.moment
+pub comes_after : (rule : Rule) (to year last : ℤ) → rule.from ≤ℤ year → year ≤ℤ rule.to → IsRuleYear year → LiesInYear (to -ℤ pos 1) (last -ℤ pos 2) → last ≤ℤ year → neg_ℤ (pos 9_998) ≤ℤ last → (to +ℤ pos LONGEST_OFFSET) <ℤ nominal_second year rule.moment
 comes_after rule to year last low high within lies after bound =
     let near = nominal_near rule year (year +ℤ pos 1) within low high refl in
     let apart = starts_apart ((last -ℤ pos 2) +ℤ pos 1) last (omega (arith, signed_arith)) (omega (arith, signed_arith)) in
