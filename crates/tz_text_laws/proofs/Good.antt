@@ -6,7 +6,8 @@ use Rattle.std.proofs.lemmas.Int.{by_lt_z}
 use Rattle.jiff_core.specs.Calendar.{IsWithin}
 use Rattle.jiff_core.proofs.SignedLemmas.{signed_arith}
 use Rattle.tz_types.specs.Year.{IsWrittenYear, IsRuleYear}
-use Rattle.tz_types.specs.Amount.{IsTimeOfDay, IsShift}
+use Rattle.tz_types.specs.Amount.{IsTimeOfDay, IsShift, is_shift}
+use Rattle.tz_types.specs.declared.limit.TheConstants.{LONGEST_SHIFT}
 use Rattle.tz_types.specs.Calendar.{has_day, has_day_through}
 use Rattle.tz_types.specs.Format.{is_format}
 use Rattle.tz_types.specs.declared.calendar.Month.{Month}
@@ -43,7 +44,7 @@ pub record GoodUntil (until : WrittenUntil) : Type 0 where
 
 abbrev pub is_good_save : WrittenRules → Bool
 is_good_save NoRules = true
-is_good_save (FixedSave save daylight) = nat_le (unsigned_abs save) 86_400
+is_good_save (FixedSave save daylight) = is_shift save
 is_good_save (RulesNamed name) = true
 
 abbrev pub GoodEnd : Option WrittenUntil → Type 0
@@ -88,7 +89,7 @@ years_in from_field to_field years h =
     by_year (Some year) is to from from_in h = subst IsWrittenYear (some_same year to h) (year_within to_field year is)
 
 shift_in : (seconds : ℤ) → IsTrue (is_shift seconds) → IsShift seconds
-shift_in seconds h = size_within 86_400 seconds h
+shift_in seconds h = size_within LONGEST_SHIFT seconds h
 
 time_in : (field : List ℕ) (time : ℤ × AtKind) → time_of field ≡ Some time → IsTimeOfDay time.0
 time_in field time h =

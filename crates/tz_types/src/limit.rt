@@ -30,6 +30,9 @@ pub const LONGEST_ABBREVIATION: usize = 32;
 /// The most seconds of a standard offset or a save, with either sign: a day.
 pub const LONGEST_SHIFT: u32 = 86_400;
 
+/// The most seconds that a zone's clock is ahead of universal time, or behind it: a standard offset and a save.
+pub const LONGEST_OFFSET: u32 = 2 * LONGEST_SHIFT;
+
 /// The most rule sets of a source.
 pub const MOST_SETS: usize = 1_024;
 
