@@ -20,7 +20,7 @@ use Rattle.tz_specs.proofs.AscendingLemmas.{never_before_itself, same_ascending}
 use Rattle.tz_database.proofs.NameOrder.{before_trans, before_other}
 use Rattle.tz_lines.specs.NameIndex.{name_position}
 use Rattle.tz_lines.specs.RuleSets.{with_set, in_name_order}
-use Rattle.tz_lines.specs.Following.{are_before}
+use Rattle.tz_lines.specs.RecordOrder.{are_before}
 use Rattle.tz_lines.proofs.NameIndex.{differs, apart_rest, first_apart, not_there, pushed_apart}
 
 -- the name of a set as it is written
