@@ -1,14 +1,10 @@
 -- The derived `==` of compiled zones, and of all that they have, holds exactly of equal values.
-use Rattle.std.proofs.Common.{◌≡◌, ℕ, ◌≤◌, Bool, IsTrue, ◌&&◌, nat_lt, nat_eq, List, length, map, ℤ, ◌≤ℤ◌, refl, ap, rules}
+use Rattle.std.proofs.Common.{◌≡◌, ◌≤◌, Bool, IsTrue, nat_lt, length, map, ◌≤ℤ◌, refl, ap, rules}
 use mathlib.Core.HLevel.{is_prop→PathP}
 use Rattle.std.proofs.Props.{props}
-use Rattle.std.specs.Bool.{Decides, beq}
+use Rattle.std.specs.Bool.{Decides}
 use Rattle.std.specs.Cmp.{booleans_Decides, unsigned_Decides, signed_Decides}
-use Rattle.std.specs.Cmp.Lexicographic.{pointwise}
-use Rattle.std.specs.Ordering.{int_eq}
-use Rattle.std.specs.Str.{bytes_eq}
-use Rattle.std.specs.declared.cmp.PartialEq.{Ghosts}
-use Rattle.std.proofs.lemmas.Bool.Decides.{Decides-and, Decides-like, Decides-at}
+use Rattle.std.proofs.lemmas.Bool.Decides.{Decides-and, Decides-like}
 use Rattle.std.proofs.lemmas.Slice.Eq.{bytes_eq-Decides, slice_eq-Decides}
 use Rattle.tz_types.specs.Year.{IsWrittenYear}
 use Rattle.tz_types.specs.Amount.{IsTimeOfDay, IsShift}
@@ -21,11 +17,9 @@ use Rattle.tz_types.specs.declared.moment.AtKind.{AtKind}
 use Rattle.tz_types.specs.declared.moment.Moment.{Moment}
 use Rattle.tz_types.specs.declared.rule.Rule.{Rule}
 use Rattle.tz_types.specs.declared.rule_set.RuleSet.{RuleSet}
-use Rattle.tz_specs.specs.Before.{letters_before}
 use Rattle.tz_expand.specs.declared.compiled_line.CompiledRules.{CompiledRules}
 use Rattle.tz_expand.specs.declared.compiled_line.CompiledLine.{CompiledLine}
 use Rattle.tz_expand.specs.declared.compiled_zone.CompiledZone.{CompiledZone}
-use Rattle.tz_expand.specs.Followed.{followed_by, is_compiled_save}
 use Rattle.tz_expand.proofs.SameZones.{line_from_fields, same_compiled}
 use Rattle.tz_types.specs.declared.format.Format.{Format}
 use Rattle.tz_types.specs.contracts.format.FormatPartialEq.TheImpl as format_impl

@@ -1,10 +1,10 @@
 -- The line of a zone that holds an instant, and the range around an instant of a line.
-use Rattle.std.proofs.Common.{◌≡◌, ℕ, ◌+◌, ◌*◌, ◌<◌, ◌≤◌, Bool, false, ◌⊎◌, inl, inr, ⊎_elim, refl, sym, ap, ◌∙◌, arith, List, [], ◌∷◌, length, drop, get_or, IsTrue, Option, Some, None, ℤ, pos, ◌<ℤ◌, ◌≤ℤ◌}
+use Rattle.std.proofs.Common.{◌≡◌, ℕ, ◌+◌, ◌*◌, ◌<◌, ◌≤◌, Bool, ◌⊎◌, inl, inr, ⊎_elim, refl, sym, ap, ◌∙◌, arith, List, [], ◌∷◌, length, drop, get_or, IsTrue, Option, Some, None, ℤ, ◌<ℤ◌, ◌≤ℤ◌}
 use Rattle.std.specs.Prelude.{IsNone, IfSome}
 use Rattle.std.specs.Int.{int_max, int_min}
 use Rattle.std.proofs.Math.Nat.{mul-le-mul}
 use Rattle.std.proofs.lemmas.Int.{ints, clamps, by_lt_z}
-use Rattle.std.proofs.lemmas.List.{drop_more, drop_all}
+use Rattle.std.proofs.lemmas.List.{drop_more}
 use Rattle.std.proofs.lemmas.Option.{slice_get_read, slice_get_within, same_Some}
 use Rattle.tz_types.specs.declared.range.SysInfo.{SysInfo}
 use Rattle.tz_types.specs.declared.rule.Rule.{Rule}
@@ -13,7 +13,7 @@ use Rattle.tz_rules.specs.declared.taken.Taken.{Taken}
 use Rattle.tz_rules.specs.Taken.{IsTakenAt, IsLastTaken, IsNextTaken}
 use Rattle.tz_specs.specs.Occurrence.{Occurrence, occurrences}
 use Rattle.tz_specs.specs.State.{InForce, instants, in_force, state_at, put_in_force, before_first}
-use Rattle.tz_specs.specs.Until.{Nothing, Fixed, Rules}
+use Rattle.tz_specs.specs.Until.{Fixed, Rules}
 use Rattle.tz_specs.specs.Expansion.{Period, first_instant, end_of_time, state_in, range_of, holds_instant, range_at}
 use Rattle.tz_specs.specs.Sound.{leads}
 use Rattle.tz_specs.specs.RulesFollowed.{rules_followed, most_rules_followed}
@@ -25,7 +25,7 @@ use Rattle.tz_specs.proofs.CoverLemmas.{leads-chains, true-holds, range_at-befor
 use Rattle.tz_specs.proofs.CutLemmas.{expansion_covers}
 use Rattle.tz_specs.proofs.RulesFollowedLemmas.{followed_by_each}
 use Rattle.tz_specs.proofs.EffectLemmas.{in_effect_once, comes_once, in_force_in_effect, in_force_before}
-use Rattle.tz_specs.proofs.AroundLemmas.{range_around, in_force_around, range_at_line, plain_is_range, fixed_is_range}
+use Rattle.tz_specs.proofs.AroundLemmas.{range_around, in_force_around, range_at_line, fixed_is_range}
 use Rattle.tz_expand.specs.declared.compiled_line.CompiledLine.{CompiledLine}
 use Rattle.tz_expand.specs.declared.compiled_zone.CompiledZone.{CompiledZone}
 use Rattle.tz_expand.specs.Followed.{followed_by}
@@ -112,16 +112,6 @@ range_followed set line t begin end kept range follows begun inside begins ends 
     let is = told kept_too in
     rw is (record { is = around.0; holds = around.1 })
 
-pub range_plain : (line : CompiledLine) (t : ℤ) (kept : InForce) (range : SysInfo) → followed_by line.rules ≡ Nothing → line.start ≤ℤ t → t <ℤ line.end → kept ≡ record { save = pos 0; daylight = false; letters = [] } → (state_in (period_of line) line.start ≡ kept → range ≡ range_of (period_of line) line.start line.end) → HoldsIn line t range
-range_plain line t kept range follows begun inside kept_is told =
-    let period = period_of line in
-    let in_force : state_in period line.start ≡ kept = rw (follows, kept_is) refl in
-    let is = told in_force in
-    rw is (record {
-      is = plain_is_range period (omega (arith, ints)) follows;
-      holds = true-holds t (range_of period line.start line.end) begun inside;
-    })
-
 pub range_fixed : (line : CompiledLine) (t save : ℤ) (daylight : Bool) (kept : InForce) (range : SysInfo) → followed_by line.rules ≡ Fixed save daylight → line.start ≤ℤ t → t <ℤ line.end → kept ≡ record { save = save; daylight = daylight; letters = [] } → (state_in (period_of line) line.start ≡ kept → range ≡ range_of (period_of line) line.start line.end) → HoldsIn line t range
 range_fixed line t save daylight kept range follows begun inside kept_is told =
     let period = period_of line in
@@ -156,23 +146,6 @@ left_later lines place line t low is left ended =
     let here = next_left lines place line t low is left in
     let on = leads-line here.from line (drop (place + 1) lines) here.leading in
     record { from = line.end; begun = ended; leading = on.on }
-
-pub left_begun : (lines : List CompiledLine) (place : ℕ) (line : CompiledLine) (t : ℤ) → place < length lines → line ≡ get_or lines place line → AreLeft (drop place lines) t → line.start ≤ℤ t
-left_begun lines place line t low is left =
-    let here = next_left lines place line t low is left in
-    let on = leads-line here.from line (drop (place + 1) lines) here.leading in
-    let begun = here.begun in
-    rw on.start begun
-
-pub left_none : (lines : List CompiledLine) (place : ℕ) (t : ℤ) → length lines ≤ place → AreLeft (drop place lines) t → t <ℤ end_of_time → ⊥
-left_none lines place t high left inside =
-    let none : AreLeft [] t = rw (drop_all place lines high) at left in
-    let at_end : none.from ≡ end_of_time = met none.from none.leading in
-    let begun = none.begun in
-    omega (arith, ints)
-  where
-    met : (from : ℤ) → IsTrue (leads from end_of_time (periods [])) → from ≡ end_of_time
-    met from leading = grind (arith, ints)
 
 pub found_in_line : (zone : CompiledZone) (lines : List CompiledLine) (place : ℕ) (line : CompiledLine) (t : ℤ) (range : SysInfo) → lines ≡ zone.lines → place < length lines → line ≡ get_or lines place line → IsRangeOf (period_of line) range → IsTrue (holds_instant t range) → range_at (expansion_of zone) t ≡ Some range
 found_in_line zone lines place line t range same low is range_is holds =

@@ -5,6 +5,7 @@ use Rattle.std.proofs.lemmas.Int.{ints}
 use Rattle.std.proofs.lemmas.Bool.{leb-true}
 use Rattle.jiff_core.specs.Calendar.{IsWithin}
 use Rattle.tz_types.specs.Amount.{IsShift}
+use Rattle.tz_types.specs.declared.limit.TheConstants.{LONGEST_SHIFT}
 use Rattle.tz_types.specs.declared.range.SysInfo.{SysInfo}
 use Rattle.tz_specs.specs.Occurrence.{Occurrence, occurrences}
 use Rattle.tz_specs.specs.State.{InForce, instants, state_at, in_force}
@@ -53,13 +54,13 @@ range_small period begin end here small =
     let save = state_small period begin small in
     (omega (arith, ints, here, save), omega (arith, ints, here, save))
 
-abs_small : (save : ℤ) → unsigned_abs save ≤ 86_400 → IsShift save
+abs_small : (save : ℤ) → unsigned_abs save ≤ LONGEST_SHIFT → IsShift save
 abs_small (pos n) h = (omega (arith, ints), omega (arith, ints))
 abs_small (negsuc n) h = (omega (arith, ints), omega (arith, ints))
 
 rules_small : (followed : CompiledRules) → IsTrue (is_compiled_save followed) → HasSmallSave (followed_by followed)
 rules_small rules.Plain small = tt
-rules_small (rules.Fixed save daylight) small = abs_small save (leb-true (unsigned_abs save) 86_400 small)
+rules_small (rules.Fixed save daylight) small = abs_small save (leb-true (unsigned_abs save) LONGEST_SHIFT small)
 rules_small (rules.Set set) small = tt
 
 line_small : (line : CompiledLine) (range : SysInfo) → IsRangeOf (period_of line) range → IsWithin 172_800 range.offset

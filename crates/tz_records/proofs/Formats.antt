@@ -3,6 +3,7 @@ use Rattle.std.proofs.Common.{◌≡◌, ◌⊎◌, inl, inr, nat_le, ℕ, ◌+�
 use Rattle.std.specs.List.{list_all, list_any}
 use Rattle.std.proofs.lemmas.Bool.{cases_Bool, and_parts, and_from, or_parts, not-true, not-false, le-leb}
 use Rattle.std.proofs.lemmas.Bool.Decides.{nat_tests}
+use Rattle.tz_types.specs.declared.limit.TheConstants.{LONGEST_FORMAT}
 use Rattle.tz_types.specs.Text.{is_printable}
 use Rattle.tz_types.specs.Format.{is_plain_part, is_format_length, is_format}
 use Rattle.tz_types.specs.declared.format.Format.{Format}
@@ -111,7 +112,7 @@ some_byte : (bytes : List ℕ) → is_empty bytes ≡ false → 0 < length bytes
 some_byte [] none = cc
 some_byte (byte ∷ bytes) none = omega arith
 
-length_fits : (count : ℕ) → 1 ≤ count → count ≤ 24 → is_format_length count ≡ true
+length_fits : (count : ℕ) → 1 ≤ count → count ≤ LONGEST_FORMAT → is_format_length count ≡ true
 length_fits count low high = grind (arith, nat_tests)
 
 only_if_some : {A : Type 0} (holds : Bool) (x y : A) → only_if holds x ≡ Some y → (holds ≡ true) × (x ≡ y)
@@ -207,6 +208,6 @@ pub visible_format : (field : List ℕ) (told : Option FormatField) → option_m
 visible_format field None e = tt
 visible_format field (Some told) e = (format_good field (format_told told) (sym e)).0
 
-pub short_format : (field : List ℕ) (told : Option FormatField) → option_map format_told told ≡ format_of field → length field ≤ 24 → IfSome told (λ format. IsTrue (is_format (format_told format)))
+pub short_format : (field : List ℕ) (told : Option FormatField) → option_map format_told told ≡ format_of field → length field ≤ LONGEST_FORMAT → IfSome told (λ format. IsTrue (is_format (format_told format)))
 short_format field None e few = tt
 short_format field (Some told) e few = (format_good field (format_told told) (sym e)).1 (omega arith)

@@ -1,13 +1,15 @@
 -- What a line of a leap text says, by its fields.
-use Rattle.std.proofs.Common.{◌≡◌, ℕ, ◌+◌, ◌<◌, ◌≤◌, Bool, true, false, not, nat_lt, nat_le, ◌==◌, if◌then◌else◌, List, [], ◌∷◌, ◌++◌, length, ℤ, pos, ◌+ℤ◌, ◌*ℤ◌, Option, Some, None, option_map, Result, Ok, Err, IfOk, IfErr, refl, ap, ◌∙◌, arith}
+use Rattle.std.proofs.Common.{◌≡◌, ℕ, ◌<◌, ◌≤◌, Bool, true, false, not, nat_lt, nat_le, if◌then◌else◌, List, [], ◌∷◌, ◌++◌, ℤ, pos, ◌+ℤ◌, ◌*ℤ◌, Option, Some, None, option_map, Result, Ok, Err, IfOk, IfErr, refl, ap, ◌∙◌, arith}
 use Rattle.std.specs.Option.{is_none}
-use Rattle.std.specs.List.{list_any}
 use Rattle.std.proofs.lemmas.Bool.{eqb-true}
+use Rattle.tz_types.specs.declared.limit.TheConstants.{MOST_LEAPS, MOST_TEXT_LINES}
 use Rattle.tz_types.specs.declared.cause.Cause.{Cause}
 use Rattle.tz_types.specs.declared.cause.Cause.TheVariants as causes
-use Rattle.tz_text.specs.Kept.{Kept, kept_of, most_kept}
+use Rattle.tz_text.specs.declared.kept.TheConstants.{MOST_KEPT}
+use Rattle.tz_text.specs.Kept.{Kept, kept_of}
 use Rattle.tz_specs.specs.Field.{fields_of}
 use Rattle.tz_specs.specs.Causes.{least_cause, unless_cause}
+use Rattle.tz_specs.specs.LineCauses.{opening_causes, number_causes}
 use Rattle.tz_specs.specs.Value.{field_at}
 use Rattle.tz_specs.specs.LeapLine.{LeapKind, SecondLine, ExpiryLine, leap_kind_of, has_leap_count, leap_day, correction_of, is_leap_time, is_stationary, day_causes, entry_of, entry_causes, second_of_day, moment_of, expiry_causes, leap_record_of, leap_record_causes, leap_kind_causes, leap_field_causes, leap_record_of_fields, leap_line_says}
 use Rattle.tz_specs.specs.LeapLine as specs
@@ -24,7 +26,7 @@ use Rattle.tz_records.proofs.LineCauses as lines
 pub day_of_entry : (earlier : ℕ) (fields : List (List ℕ)) (cause : Cause) → least_cause (day_causes fields) ≡ Some cause → least_cause (entry_causes earlier fields) ≡ Some cause
 unfolding entry_causes
 day_of_entry earlier fields cause h =
-    least_before (day_causes fields) ((causes.Time, not (is_leap_time (correction_of (field_at 5 fields)) (field_at 4 fields))) ∷ (causes.Corr, is_none (correction_of (field_at 5 fields))) ∷ (causes.Rolling, not (is_stationary (field_at 6 fields))) ∷ (causes.Limit, nat_le 1_024 earlier) ∷ []) cause h
+    least_before (day_causes fields) ((causes.Time, not (is_leap_time (correction_of (field_at 5 fields)) (field_at 4 fields))) ∷ (causes.Corr, is_none (correction_of (field_at 5 fields))) ∷ (causes.Rolling, not (is_stationary (field_at 6 fields))) ∷ (causes.Limit, nat_le MOST_LEAPS earlier) ∷ []) cause h
 
 pub day_of_expiry : (fields : List (List ℕ)) (cause : Cause) → least_cause (day_causes fields) ≡ Some cause → least_cause (expiry_causes fields) ≡ Some cause
 unfolding expiry_causes
@@ -32,10 +34,10 @@ day_of_expiry fields cause h =
     least_before (day_causes fields) ((causes.Time, is_none (second_of_day (field_at 4 fields))) ∷ []) cause h
 
 -- the tests behind the day
-pub entry_tests : (earlier : ℕ) (fields : List (List ℕ)) (time stationary : Bool) (correction : Option Bool) → least_cause (day_causes fields) ≡ None → correction ≡ correction_of (field_at 5 fields) → time ≡ is_leap_time correction (field_at 4 fields) → stationary ≡ is_stationary (field_at 6 fields) → least_cause (entry_causes earlier fields) ≡ (if not time then Some causes.Time else (if is_none correction then Some causes.Corr else (if not stationary then Some causes.Rolling else (if nat_le 1_024 earlier then Some causes.Limit else None))))
+pub entry_tests : (earlier : ℕ) (fields : List (List ℕ)) (time stationary : Bool) (correction : Option Bool) → least_cause (day_causes fields) ≡ None → correction ≡ correction_of (field_at 5 fields) → time ≡ is_leap_time correction (field_at 4 fields) → stationary ≡ is_stationary (field_at 6 fields) → least_cause (entry_causes earlier fields) ≡ (if not time then Some causes.Time else (if is_none correction then Some causes.Corr else (if not stationary then Some causes.Rolling else (if nat_le MOST_LEAPS earlier then Some causes.Limit else None))))
 unfolding entry_causes
 entry_tests earlier fields time stationary correction none corr timed still =
-    rw (corr, timed, corr, still) (least_after (day_causes fields) ((causes.Time, not (is_leap_time (correction_of (field_at 5 fields)) (field_at 4 fields))) ∷ (causes.Corr, is_none (correction_of (field_at 5 fields))) ∷ (causes.Rolling, not (is_stationary (field_at 6 fields))) ∷ (causes.Limit, nat_le 1_024 earlier) ∷ []) none)
+    rw (corr, timed, corr, still) (least_after (day_causes fields) ((causes.Time, not (is_leap_time (correction_of (field_at 5 fields)) (field_at 4 fields))) ∷ (causes.Corr, is_none (correction_of (field_at 5 fields))) ∷ (causes.Rolling, not (is_stationary (field_at 6 fields))) ∷ (causes.Limit, nat_le MOST_LEAPS earlier) ∷ []) none)
 
 pub expiry_tests : (fields : List (List ℕ)) (second : Option ℕ) → least_cause (day_causes fields) ≡ None → second ≡ second_of_day (field_at 4 fields) → least_cause (expiry_causes fields) ≡ (if is_none second then Some causes.Time else None)
 unfolding expiry_causes
@@ -52,7 +54,7 @@ moment_said fields day second e f = rw (e, f) refl
 
 -- ---- the kind of a record
 
-few_counted : (kind : LeapKind) (count : ℕ) → has_leap_count kind count ≡ true → count ≤ most_kept
+few_counted : (kind : LeapKind) (count : ℕ) → has_leap_count kind count ≡ true → count ≤ MOST_KEPT
 few_counted SecondLine count h = let is = eqb-true count 7 h in omega arith
 few_counted ExpiryLine count h = let is = eqb-true count 5 h in omega arith
 
@@ -88,43 +90,33 @@ late_means : (late : Bool) (told : Option LeapRecord) → Means (unless_late lat
 late_means true told = refl
 late_means false told = refl
 
-pub blank_fields : (number earlier : ℕ) → Means (unless_late (nat_lt 100_000 number) None) (leap_fields_say number earlier [])
+pub blank_fields : (number earlier : ℕ) → Means (unless_late (nat_lt MOST_TEXT_LINES number) None) (leap_fields_say number earlier [])
 unfolding leap_field_causes leap_record_of_fields
-blank_fields number earlier = late_means (nat_lt 100_000 number) None
+blank_fields number earlier = late_means (nat_lt MOST_TEXT_LINES number) None
 
-pub told_fields : (number earlier : ℕ) (all : List (List ℕ)) (told : LeapRecord) → Tells record_meant (leap_field_causes earlier all) (leap_record_of_fields all) (Ok told) → Means (unless_late (nat_lt 100_000 number) (Some told)) (leap_fields_say number earlier all)
+pub told_fields : (number earlier : ℕ) (all : List (List ℕ)) (told : LeapRecord) → Tells record_meant (leap_field_causes earlier all) (leap_record_of_fields all) (Ok told) → Means (unless_late (nat_lt MOST_TEXT_LINES number) (Some told)) (leap_fields_say number earlier all)
 told_fields number earlier all told tells =
-    rw (least_after (leap_field_causes earlier all) ((causes.Limit, nat_lt 100_000 number) ∷ []) tells.0, tells.1) (late_means (nat_lt 100_000 number) (Some told))
+    rw (least_after (leap_field_causes earlier all) (number_causes number) tells.0, tells.1) (late_means (nat_lt MOST_TEXT_LINES number) (Some told))
 
 pub refused_fields : (number earlier : ℕ) (all : List (List ℕ)) (cause : Cause) → least_cause (leap_field_causes earlier all) ≡ Some cause → leap_fields_say number earlier all ≡ Err cause
 refused_fields number earlier all cause h =
-    rw (least_before (leap_field_causes earlier all) ((causes.Limit, nat_lt 100_000 number) ∷ []) cause h) refl
+    rw (least_before (leap_field_causes earlier all) (number_causes number) cause h) refl
 
 -- ---- the line
 
 -- the causes of the fields of a line, with that of its place
 abbrev rows_at : ℕ → ℕ → List (List ℕ) → List (Cause × Bool)
-rows_at number earlier fields = leap_field_causes earlier fields ++ (causes.Limit, nat_lt 100_000 number) ∷ []
+rows_at number earlier fields = leap_field_causes earlier fields ++ number_causes number
 
-pub long_line : (number earlier : ℕ) (line : List ℕ) → 2_048 < length line + 1 → leap_line_says number earlier line ≡ Err causes.LongLine
+pub refused_line : (number earlier : ℕ) (line : List ℕ) (cause : Cause) → least_cause (opening_causes line) ≡ Some cause → leap_line_says number earlier line ≡ Err cause
 unfolding leap_line_says
-long_line number earlier line long =
-    lines.refused_line (rows_at number earlier) leap_record_of_fields line causes.LongLine (lines.long_cause (rows_at number earlier) line long)
+refused_line number earlier line cause h =
+    lines.refused_line (rows_at number earlier) leap_record_of_fields line cause h
 
-pub nul_line : (number earlier : ℕ) (line : List ℕ) → length line + 1 ≤ 2_048 → list_any (λ byte. byte == 0) line ≡ true → leap_line_says number earlier line ≡ Err causes.Nul
+pub whole_line : (number earlier : ℕ) (line : List ℕ) (kept : Kept) (told : Result (Option LeapRecord) Cause) → least_cause (opening_causes line) ≡ None → option_map kept_of (fields_of line) ≡ Some kept → ((all : List (List ℕ)) → kept_of all ≡ kept → Means told (leap_fields_say number earlier all)) → Means told (leap_line_says number earlier line)
 unfolding leap_line_says
-nul_line number earlier line short nul =
-    lines.refused_line (rows_at number earlier) leap_record_of_fields line causes.Nul (lines.nul_cause (rows_at number earlier) line short nul)
-
-pub open_line : (number earlier : ℕ) (line : List ℕ) → length line + 1 ≤ 2_048 → list_any (λ byte. byte == 0) line ≡ false → fields_of line ≡ None → leap_line_says number earlier line ≡ Err causes.OpenQuote
-unfolding leap_line_says
-open_line number earlier line short nul e =
-    lines.refused_line (rows_at number earlier) leap_record_of_fields line causes.OpenQuote (lines.open_cause (rows_at number earlier) line short nul e)
-
-pub whole_line : (number earlier : ℕ) (line : List ℕ) (kept : Kept) (told : Result (Option LeapRecord) Cause) → length line + 1 ≤ 2_048 → list_any (λ byte. byte == 0) line ≡ false → option_map kept_of (fields_of line) ≡ Some kept → ((all : List (List ℕ)) → kept_of all ≡ kept → Means told (leap_fields_say number earlier all)) → Means told (leap_line_says number earlier line)
-unfolding leap_line_says
-whole_line number earlier line kept told short nul e says =
-    lines.whole_line (rows_at number earlier) leap_record_of_fields (Means told) line kept short nul e says
+whole_line number earlier line kept told none e says =
+    lines.whole_line (rows_at number earlier) leap_record_of_fields (Means told) line kept none e says
 
 -- the two sides of what is meant
 pub means_ok : (told : Result (Option LeapRecord) Cause) (outcome : Result (Option specs.LeapRecord) Cause) → Means told outcome → IfOk told (λ said. outcome ≡ Ok (option_map record_meant said))

@@ -4,8 +4,8 @@ use Rattle.std.specs.List.{slice_get}
 use Rattle.std.proofs.lemmas.Option.{same_Some}
 use Rattle.tz_types.specs.declared.cause.Cause.{Cause}
 use Rattle.tz_types.specs.declared.cause.Cause.TheVariants as causes
-use Rattle.tz_specs.specs.Causes.{least_cause, unless_cause}
-use Rattle.tz_records.specs.Tells.{Tells, unless_late}
+use Rattle.tz_specs.specs.Causes.{least_cause}
+use Rattle.tz_records.specs.Tells.{Tells}
 
 step_before : (holds : Bool) (first cause : Cause) (a b : Option Cause) → (a ≡ Some cause → b ≡ Some cause) → (if holds then Some first else a) ≡ Some cause → (if holds then Some first else b) ≡ Some cause
 step_before true first cause a b next h = h
@@ -99,8 +99,3 @@ row_at (first ∷ rows) h (suc place) row e = row_at rows (rows_false first rows
 pub same_tells : {A B : Type 0} (written : B → A) (rows others : List (Cause × Bool)) (said other : Option A) (told : Result B Cause) → least_cause others ≡ least_cause rows → other ≡ said → Tells written rows said told → Tells written others other told
 same_tells written rows others said other (Ok here) e is tells = (e ∙ tells.0, is ∙ tells.1)
 same_tells written rows others said other (Err cause) e is tells = e ∙ tells
-
--- the one cause that a line is one too many
-pub late_or_said : {A : Type 0} (late : Bool) (said : A) → unless_late late said ≡ unless_cause (least_cause ((causes.Limit, late) ∷ [])) said
-late_or_said true said = refl
-late_or_said false said = refl

@@ -4,6 +4,7 @@ use Rattle.std.specs.Option.{is_none}
 use Rattle.std.specs.List.{list_all}
 use Rattle.std.proofs.lemmas.Bool.{lt-ltb, le-ltb}
 use Rattle.std.proofs.Math.Bool.{or-false}
+use Rattle.tz_types.specs.declared.limit.TheConstants.{LONGEST_LETTERS}
 use Rattle.tz_types.specs.Text.{is_printable}
 use Rattle.tz_types.specs.declared.cause.Cause.TheVariants as causes
 use Rattle.tz_types.specs.declared.calendar.Month.{Month}
@@ -72,19 +73,19 @@ values_said bad starts visible fields name eighth letters recurrence save none e
       visible = rw lettered at (sym is_seen ∙ seen);
     }
 
-late_causes : (fields : List (List ℕ)) (recurrence : WrittenRecurrence) (save : ℤ × Bool) → IsSaid fields recurrence save → least_cause (rule_causes false fields) ≡ (if nat_lt 8 (length (letters_of (field_at 9 fields))) then Some causes.LongAbbrev else (if is_long_name (field_at 1 fields) then Some causes.Limit else None))
+late_causes : (fields : List (List ℕ)) (recurrence : WrittenRecurrence) (save : ℤ × Bool) → IsSaid fields recurrence save → least_cause (rule_causes false fields) ≡ (if nat_lt LONGEST_LETTERS (length (letters_of (field_at 9 fields))) then Some causes.LongAbbrev else (if is_long_name (field_at 1 fields) then Some causes.Limit else None))
 unfolding setting_causes
 late_causes fields recurrence save said =
-    recurrence_told fields said.no_cause ∙ by_tests (is_none (save_of (field_at 8 fields))) (is_bad_name (field_at 1 fields)) (starts_amount (field_at 1 fields)) (list_all is_printable (letters_of (field_at 9 fields))) (nat_lt 8 (length (letters_of (field_at 9 fields)))) (is_long_name (field_at 1 fields)) (rw said.save_is refl) said.good_name said.no_amount said.visible
+    recurrence_told fields said.no_cause ∙ by_tests (is_none (save_of (field_at 8 fields))) (is_bad_name (field_at 1 fields)) (starts_amount (field_at 1 fields)) (list_all is_printable (letters_of (field_at 9 fields))) (nat_lt LONGEST_LETTERS (length (letters_of (field_at 9 fields)))) (is_long_name (field_at 1 fields)) (rw said.save_is refl) said.good_name said.no_amount said.visible
 
-pub long_letters : (fields : List (List ℕ)) (recurrence : WrittenRecurrence) (save : ℤ × Bool) → IsSaid fields recurrence save → 8 < length (letters_of (field_at 9 fields)) → least_cause (rule_causes false fields) ≡ Some causes.LongAbbrev
+pub long_letters : (fields : List (List ℕ)) (recurrence : WrittenRecurrence) (save : ℤ × Bool) → IsSaid fields recurrence save → LONGEST_LETTERS < length (letters_of (field_at 9 fields)) → least_cause (rule_causes false fields) ≡ Some causes.LongAbbrev
 long_letters fields recurrence save said long =
-    late_causes fields recurrence save said ∙ rw (lt-ltb 8 (length (letters_of (field_at 9 fields))) long) refl
+    late_causes fields recurrence save said ∙ rw (lt-ltb LONGEST_LETTERS (length (letters_of (field_at 9 fields))) long) refl
 
 -- the last cause, or none
-pub last_cause : (beyond : Bool) (fields : List (List ℕ)) (recurrence : WrittenRecurrence) (save : ℤ × Bool) → IsSaid fields recurrence save → length (letters_of (field_at 9 fields)) ≤ 8 → is_long_name (field_at 1 fields) ≡ beyond → least_cause (rule_causes false fields) ≡ (if beyond then Some causes.Limit else None)
+pub last_cause : (beyond : Bool) (fields : List (List ℕ)) (recurrence : WrittenRecurrence) (save : ℤ × Bool) → IsSaid fields recurrence save → length (letters_of (field_at 9 fields)) ≤ LONGEST_LETTERS → is_long_name (field_at 1 fields) ≡ beyond → least_cause (rule_causes false fields) ≡ (if beyond then Some causes.Limit else None)
 last_cause beyond fields recurrence save said short is =
-    late_causes fields recurrence save said ∙ rw (le-ltb 8 (length (letters_of (field_at 9 fields))) short, is) refl
+    late_causes fields recurrence save said ∙ rw (le-ltb LONGEST_LETTERS (length (letters_of (field_at 9 fields))) short, is) refl
 
 -- what the line says
 pub rule_said : (number : ℕ) (fields : List (List ℕ)) (name letters : List ℕ) (recurrence : WrittenRecurrence) (save : ℤ × Bool) (rule : WrittenRule) → IsSaid fields recurrence save → name ≡ field_at 1 fields → letters ≡ letters_of (field_at 9 fields) → rule ≡ rule_with number letters recurrence save → record_of RuleLine number fields ≡ Some (RuleRecord name rule)

@@ -3,6 +3,7 @@ use Rattle.std.proofs.Common.{◌≡◌, ℕ, ◌+◌, ◌<◌, ◌≤◌, nat_l
 use Rattle.std.specs.Option.{is_none}
 use Rattle.std.proofs.lemmas.List.{get_or-drop, length-drop}
 use Rattle.std.proofs.lemmas.Bool.{lt-ltb, le-ltb, le-leb, lt-leb, or_parts, or_from}
+use Rattle.tz_types.specs.declared.limit.TheConstants.{LONGEST_FORMAT}
 use Rattle.tz_types.specs.declared.cause.Cause.{Cause}
 use Rattle.tz_types.specs.declared.cause.Cause.TheVariants as causes
 use Rattle.tz_specs.specs.Causes.{least_cause}
@@ -58,7 +59,7 @@ by_until true false false false false time later = refl
 parts_of_causes : (badly_named long_named : Bool) (fields : List (List ℕ)) → least_cause (line_causes badly_named long_named fields) ≡ least_cause (until_causes fields ++ keeping_causes badly_named long_named fields)
 unfolding line_causes end_causes keeping_causes
 parts_of_causes badly_named long_named fields =
-    by_until (has_until fields) (is_none (rule_year_of (field_at 3 fields))) (is_none (month_named (until_month fields))) (is_none (until_day fields)) (is_none (stdoff_of (field_at 0 fields))) (is_none (time_of (until_time fields))) ((causes.Save, is_none (rules_of (field_at 1 fields))) ∷ (causes.BadName, badly_named || (names_set (field_at 1 fields) && is_bad_name (field_at 1 fields))) ∷ (causes.Format, is_none (format_of (field_at 2 fields))) ∷ (causes.LongAbbrev, nat_lt 24 (length (field_at 2 fields))) ∷ (causes.Limit, long_named || (names_set (field_at 1 fields) && is_long_name (field_at 1 fields))) ∷ [])
+    by_until (has_until fields) (is_none (rule_year_of (field_at 3 fields))) (is_none (month_named (until_month fields))) (is_none (until_day fields)) (is_none (stdoff_of (field_at 0 fields))) (is_none (time_of (until_time fields))) ((causes.Save, is_none (rules_of (field_at 1 fields))) ∷ (causes.BadName, badly_named || (names_set (field_at 1 fields) && is_bad_name (field_at 1 fields))) ∷ (causes.Format, is_none (format_of (field_at 2 fields))) ∷ (causes.LongAbbrev, nat_lt LONGEST_FORMAT (length (field_at 2 fields))) ∷ (causes.Limit, long_named || (names_set (field_at 1 fields) && is_long_name (field_at 1 fields))) ∷ [])
 
 -- a cause of the UNTIL is the line's
 pub end_refused : (badly_named long_named : Bool) (fields : List (List ℕ)) (cause : Cause) → least_cause (until_causes fields) ≡ Some cause → least_cause (line_causes badly_named long_named fields) ≡ Some cause
@@ -92,19 +93,19 @@ values_said badly_named set_badly fields first second third stdoff rules format 
       format_is = rw c at (sym at_third);
     }
 
-late_causes : (badly_named long_named : Bool) (fields : List (List ℕ)) (stdoff : ℤ) (rules : WrittenRules) (format : Format) → IsSaid badly_named fields stdoff rules format → least_cause (line_causes badly_named long_named fields) ≡ (if nat_lt 24 (length (field_at 2 fields)) then Some causes.LongAbbrev else (if long_named || (names_set (field_at 1 fields) && is_long_name (field_at 1 fields)) then Some causes.Limit else None))
+late_causes : (badly_named long_named : Bool) (fields : List (List ℕ)) (stdoff : ℤ) (rules : WrittenRules) (format : Format) → IsSaid badly_named fields stdoff rules format → least_cause (line_causes badly_named long_named fields) ≡ (if nat_lt LONGEST_FORMAT (length (field_at 2 fields)) then Some causes.LongAbbrev else (if long_named || (names_set (field_at 1 fields) && is_long_name (field_at 1 fields)) then Some causes.Limit else None))
 unfolding keeping_causes
 late_causes badly_named long_named fields stdoff rules format said =
-    end_told badly_named long_named fields said.no_cause ∙ by_tests (is_none (stdoff_of (field_at 0 fields))) (is_none (rules_of (field_at 1 fields))) (badly_named || (names_set (field_at 1 fields) && is_bad_name (field_at 1 fields))) (is_none (format_of (field_at 2 fields))) (nat_lt 24 (length (field_at 2 fields))) (long_named || (names_set (field_at 1 fields) && is_long_name (field_at 1 fields))) (rw said.stdoff_is refl) (rw said.rules_are refl) said.well_named (rw said.format_is refl)
+    end_told badly_named long_named fields said.no_cause ∙ by_tests (is_none (stdoff_of (field_at 0 fields))) (is_none (rules_of (field_at 1 fields))) (badly_named || (names_set (field_at 1 fields) && is_bad_name (field_at 1 fields))) (is_none (format_of (field_at 2 fields))) (nat_lt LONGEST_FORMAT (length (field_at 2 fields))) (long_named || (names_set (field_at 1 fields) && is_long_name (field_at 1 fields))) (rw said.stdoff_is refl) (rw said.rules_are refl) said.well_named (rw said.format_is refl)
 
-pub long_format : (badly_named long_named : Bool) (fields : List (List ℕ)) (stdoff : ℤ) (rules : WrittenRules) (format : Format) → IsSaid badly_named fields stdoff rules format → 24 < length (field_at 2 fields) → least_cause (line_causes badly_named long_named fields) ≡ Some causes.LongAbbrev
+pub long_format : (badly_named long_named : Bool) (fields : List (List ℕ)) (stdoff : ℤ) (rules : WrittenRules) (format : Format) → IsSaid badly_named fields stdoff rules format → LONGEST_FORMAT < length (field_at 2 fields) → least_cause (line_causes badly_named long_named fields) ≡ Some causes.LongAbbrev
 long_format badly_named long_named fields stdoff rules format said long =
-    late_causes badly_named long_named fields stdoff rules format said ∙ rw (lt-ltb 24 (length (field_at 2 fields)) long) refl
+    late_causes badly_named long_named fields stdoff rules format said ∙ rw (lt-ltb LONGEST_FORMAT (length (field_at 2 fields)) long) refl
 
 -- the last cause, or none
-pub last_cause : (badly_named long_named beyond : Bool) (fields : List (List ℕ)) (stdoff : ℤ) (rules : WrittenRules) (format : Format) → IsSaid badly_named fields stdoff rules format → length (field_at 2 fields) ≤ 24 → (long_named || (names_set (field_at 1 fields) && is_long_name (field_at 1 fields))) ≡ beyond → least_cause (line_causes badly_named long_named fields) ≡ (if beyond then Some causes.Limit else None)
+pub last_cause : (badly_named long_named beyond : Bool) (fields : List (List ℕ)) (stdoff : ℤ) (rules : WrittenRules) (format : Format) → IsSaid badly_named fields stdoff rules format → length (field_at 2 fields) ≤ LONGEST_FORMAT → (long_named || (names_set (field_at 1 fields) && is_long_name (field_at 1 fields))) ≡ beyond → least_cause (line_causes badly_named long_named fields) ≡ (if beyond then Some causes.Limit else None)
 last_cause badly_named long_named beyond fields stdoff rules format said short is =
-    late_causes badly_named long_named fields stdoff rules format said ∙ rw (le-ltb 24 (length (field_at 2 fields)) short, is) refl
+    late_causes badly_named long_named fields stdoff rules format said ∙ rw (le-ltb LONGEST_FORMAT (length (field_at 2 fields)) short, is) refl
 
 -- what the line says
 pub line_said : (badly_named : Bool) (number : ℕ) (fields : List (List ℕ)) (stdoff : ℤ) (rules : WrittenRules) (format : Format) (until : Option WrittenUntil) → IsSaid badly_named fields stdoff rules format → until_of fields ≡ Some until → line_of number fields ≡ Some (record { stdoff = stdoff; rules = rules; format = format; until = until; line = number })

@@ -1,13 +1,14 @@
 -- What a line of a zone text says by itself, by its fields.
-use Rattle.std.proofs.Common.{◌≡◌, ℕ, ◌+◌, ◌<◌, ◌≤◌, Bool, true, false, nat_le, nat_lt, ◌==◌, ◌||◌, ◌&&◌, List, [], ◌∷◌, ◌++◌, length, drop, take, Option, Some, None, option_map, Result, Ok, Err, IfOk, IfErr, refl, sym, ap, ◌∙◌, arith}
-use Rattle.std.specs.List.{list_any}
+use Rattle.std.proofs.Common.{◌≡◌, ℕ, ◌<◌, ◌≤◌, Bool, true, false, nat_le, ◌||◌, ◌&&◌, List, [], ◌∷◌, ◌++◌, drop, take, Option, Some, None, option_map, Result, Ok, Err, IfOk, IfErr, refl, sym, ap, ◌∙◌, arith}
 use Rattle.std.proofs.lemmas.Bool.{and_parts, leb-true, eqb-true}
 use Rattle.std.proofs.lemmas.Option.{same_Some}
 use Rattle.tz_types.specs.declared.cause.Cause.{Cause}
 use Rattle.tz_types.specs.declared.cause.Cause.TheVariants as causes
-use Rattle.tz_text.specs.Kept.{Kept, kept_of, most_kept}
+use Rattle.tz_text.specs.declared.kept.TheConstants.{MOST_KEPT}
+use Rattle.tz_text.specs.Kept.{Kept, kept_of}
 use Rattle.tz_specs.specs.Field.{fields_of}
 use Rattle.tz_specs.specs.Causes.{least_cause}
+use Rattle.tz_specs.specs.LineCauses.{opening_causes, number_causes}
 use Rattle.tz_specs.specs.Value.{field_at, names_set, is_bad_name, is_long_name}
 use Rattle.tz_specs.specs.Written.{WrittenRule, WrittenLine, Record, RuleRecord, ZoneRecord, Continuation}
 use Rattle.tz_specs.specs.Record.{Kind, RuleLine, ZoneLine, LinkLine, ContinuationLine, kind_of_record, has_count, rule_of, rule_causes, line_of, line_causes, link_causes, record_of}
@@ -19,7 +20,7 @@ use Rattle.tz_records.specs.LineAlone.{SaysAlone, RefusesAlone}
 use Rattle.tz_records.specs.Tells.{Tells, TellsUncounted}
 use Rattle.tz_records.proofs.KeptFields.{count_kept, none_kept, all_kept}
 use Rattle.tz_records.proofs.LeastCauses.{least_before, least_same, counted_none, counted_some}
-use Rattle.tz_records.proofs.LineCauses.{cause_of, whole_cause}
+use Rattle.tz_records.proofs.LineCauses.{early_cause, whole_cause}
 
 -- ---- records by their kind, and whether they are one too many
 
@@ -117,7 +118,7 @@ link_counted before number fields (Err cause) tells =
 -- ---- the kind of a record
 
 -- no record has more fields than are kept
-pub few_counted : (kind : Kind) (count : ℕ) → has_count kind count ≡ true → count ≤ most_kept
+pub few_counted : (kind : Kind) (count : ℕ) → has_count kind count ≡ true → count ≤ MOST_KEPT
 few_counted RuleLine count h =
     let is = eqb-true count 10 h in
     omega arith
@@ -150,26 +151,26 @@ counted_record before waiting number (field ∷ fields) kept kind same e some is
 
 -- the causes of the fields of a line, with that of its place
 abbrev rows_at : Contents → ℕ → List (List ℕ) → List (Cause × Bool)
-rows_at before place fields = field_causes before fields ++ (causes.Limit, nat_lt 100_000 place) ∷ []
+rows_at before place fields = field_causes before fields ++ number_causes place
 
 -- a line that has a cause by itself
-pub refuses : (waiting : Bool) (line : List ℕ) (cause : Cause) → ((rows : List (List ℕ) → List (Cause × Bool)) → cause_of rows line ≡ Some cause) → RefusesAlone waiting line cause
-refuses waiting line cause h = λ before place same. h (rows_at before place)
+pub refuses : (waiting : Bool) (line : List ℕ) (cause : Cause) → least_cause (opening_causes line) ≡ Some cause → RefusesAlone waiting line cause
+refuses waiting line cause h = λ before place same. early_cause (rows_at before place) line cause h
 
 -- what the fields of a line say is what the line says
 abbrev SaysFields : Bool → ℕ → Kept → Result (Option Entry) Cause → Type 0
 SaysFields waiting number kept told =
     (before : Contents) (all : List (List ℕ)) → waits before ≡ waiting → kept_of all ≡ kept → TellsUncounted (option_map written_entry) (exceeds_said before) (field_causes before all) (Some (record_of_fields before number all)) told
 
-pub says_alone : (waiting : Bool) (number : ℕ) (line : List ℕ) (kept : Kept) (told : Result (Option Entry) Cause) → length line + 1 ≤ 2_048 → list_any (λ byte. byte == 0) line ≡ false → option_map kept_of (fields_of line) ≡ Some kept → SaysFields waiting number kept told → IfOk told (λ said. SaysAlone waiting number line (option_map written_entry said))
-says_alone waiting number line kept (Ok said) short nul e says =
+pub says_alone : (waiting : Bool) (number : ℕ) (line : List ℕ) (kept : Kept) (told : Result (Option Entry) Cause) → least_cause (opening_causes line) ≡ None → option_map kept_of (fields_of line) ≡ Some kept → SaysFields waiting number kept told → IfOk told (λ said. SaysAlone waiting number line (option_map written_entry said))
+says_alone waiting number line kept (Ok said) none e says =
     record {
-      record_is = λ before same. whole_cause (rows_at before number) (λ cause all. record_of_fields before number all ≡ option_map written_entry said) line kept short nul e (λ all is. same_Some _ _ (says before all same is).1);
-      cause_is = λ before place same. whole_cause (rows_at before place) (λ cause all. cause ≡ least_cause (count_causes before place (option_map written_entry said))) line kept short nul e (λ all is. least_same (field_causes before all) ((causes.Limit, exceeds_said before (option_map written_entry said)) ∷ []) ((causes.Limit, nat_lt 100_000 place) ∷ []) (says before all same is).0);
+      record_is = λ before same. whole_cause (rows_at before number) (λ cause all. record_of_fields before number all ≡ option_map written_entry said) line kept none e (λ all is. same_Some _ _ (says before all same is).1);
+      cause_is = λ before place same. whole_cause (rows_at before place) (λ cause all. cause ≡ least_cause (count_causes before place (option_map written_entry said))) line kept none e (λ all is. least_same (field_causes before all) ((causes.Limit, exceeds_said before (option_map written_entry said)) ∷ []) (number_causes place) (says before all same is).0);
     }
-says_alone waiting number line kept (Err cause) short nul e says = tt
+says_alone waiting number line kept (Err cause) none e says = tt
 
-pub refuses_alone : (waiting : Bool) (number : ℕ) (line : List ℕ) (kept : Kept) (told : Result (Option Entry) Cause) → length line + 1 ≤ 2_048 → list_any (λ byte. byte == 0) line ≡ false → option_map kept_of (fields_of line) ≡ Some kept → SaysFields waiting number kept told → IfErr told (RefusesAlone waiting line)
-refuses_alone waiting number line kept (Ok said) short nul e says = tt
-refuses_alone waiting number line kept (Err cause) short nul e says =
-    λ before place same. whole_cause (rows_at before place) (λ it all. it ≡ Some cause) line kept short nul e (λ all is. least_before (field_causes before all) ((causes.Limit, nat_lt 100_000 place) ∷ []) cause (says before all same is))
+pub refuses_alone : (waiting : Bool) (number : ℕ) (line : List ℕ) (kept : Kept) (told : Result (Option Entry) Cause) → least_cause (opening_causes line) ≡ None → option_map kept_of (fields_of line) ≡ Some kept → SaysFields waiting number kept told → IfErr told (RefusesAlone waiting line)
+refuses_alone waiting number line kept (Ok said) none e says = tt
+refuses_alone waiting number line kept (Err cause) none e says =
+    λ before place same. whole_cause (rows_at before place) (λ it all. it ≡ Some cause) line kept none e (λ all is. least_before (field_causes before all) (number_causes place) cause (says before all same is))

@@ -1,8 +1,8 @@
 -- Records of leap texts, as the reader has them.
-use Rattle.std.specs.Prelude.{◌≡◌, ℕ, nat_lt, List, [], ◌∷◌, ◌++◌, Option, option_map, Result, Ok, Err}
+use Rattle.std.specs.Prelude.{◌≡◌, ℕ, List, ◌++◌, Option, option_map, Result, Ok, Err}
 use Rattle.tz_types.specs.declared.cause.Cause.{Cause}
-use Rattle.tz_types.specs.declared.cause.Cause.TheVariants as causes
 use Rattle.tz_specs.specs.Causes.{least_cause, unless_cause}
+use Rattle.tz_specs.specs.LineCauses.{number_causes}
 use Rattle.tz_specs.specs.LeapLine.{SecondRecord, ExpiryRecord, SecondLine, ExpiryLine, leap_field_causes, leap_record_of_fields}
 use Rattle.tz_specs.specs.LeapLine as lines
 use Rattle.tz_records.specs.declared.leap_record.LeapRecord.{LeapRecord}
@@ -21,7 +21,7 @@ record_meant (records.Expiry moment) = ExpiryRecord moment
 -- what the fields of a line say, by its number and by how many leap seconds stand before it
 abbrev pub leap_fields_say : ℕ → ℕ → List (List ℕ) → Result (Option lines.LeapRecord) Cause
 leap_fields_say number earlier fields =
-    unless_cause (least_cause (leap_field_causes earlier fields ++ (causes.Limit, nat_lt 100_000 number) ∷ []))
+    unless_cause (least_cause (leap_field_causes earlier fields ++ number_causes number))
     (leap_record_of_fields fields)
 
 -- the reader's result stands for what is said

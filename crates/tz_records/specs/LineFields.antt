@@ -1,6 +1,7 @@
 -- What a zone's line says in two parts: when it ends, and what it keeps until then.
 use Rattle.std.specs.Prelude.{ℕ, nat_lt, Bool, ◌&&◌, ◌||◌, if◌then◌else◌, List, [], ◌∷◌, length, ℤ, Option}
 use Rattle.std.specs.Option.{is_none}
+use Rattle.tz_types.specs.declared.limit.TheConstants.{LONGEST_FORMAT}
 use Rattle.tz_types.specs.declared.cause.Cause.{Cause}
 use Rattle.tz_types.specs.declared.cause.Cause.TheVariants as causes
 use Rattle.tz_specs.specs.Value.{field_at, month_named, rule_year_of, time_of, stdoff_of, is_bad_name, is_long_name, names_set, rules_of, format_of}
@@ -28,7 +29,7 @@ keeping_causes badly_named long_named fields =
     ∷ (causes.Save, is_none (rules_of (field_at 1 fields)))
     ∷ (causes.BadName, badly_named || (names_set (field_at 1 fields) && is_bad_name (field_at 1 fields)))
     ∷ (causes.Format, is_none (format_of (field_at 2 fields)))
-    ∷ (causes.LongAbbrev, nat_lt 24 (length (field_at 2 fields)))
+    ∷ (causes.LongAbbrev, nat_lt LONGEST_FORMAT (length (field_at 2 fields)))
     ∷ (causes.Limit, long_named || (names_set (field_at 1 fields) && is_long_name (field_at 1 fields)))
     ∷ []
 

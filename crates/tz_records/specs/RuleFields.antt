@@ -2,6 +2,7 @@
 use Rattle.std.specs.Prelude.{ℕ, nat_lt, Bool, not, ◌||◌, List, [], ◌∷◌, length, ℤ, Option, Some}
 use Rattle.std.specs.Option.{is_none}
 use Rattle.std.specs.List.{list_all}
+use Rattle.tz_types.specs.declared.limit.TheConstants.{LONGEST_LETTERS}
 use Rattle.tz_types.specs.Text.{is_printable}
 use Rattle.tz_types.specs.declared.moment.Moment.{Moment}
 use Rattle.tz_types.specs.declared.cause.Cause.{Cause}
@@ -65,6 +66,6 @@ setting_causes fields =
     (causes.Save, is_none (save_of (field_at 8 fields)))
     ∷ (causes.BadName, is_bad_name (field_at 1 fields) || starts_amount (field_at 1 fields))
     ∷ (causes.Format, not (list_all is_printable (letters_of (field_at 9 fields))))
-    ∷ (causes.LongAbbrev, nat_lt 8 (length (letters_of (field_at 9 fields))))
+    ∷ (causes.LongAbbrev, nat_lt LONGEST_LETTERS (length (letters_of (field_at 9 fields))))
     ∷ (causes.Limit, is_long_name (field_at 1 fields))
     ∷ []

@@ -1,5 +1,6 @@
 -- The rules that a field of a zone's line tells.
 use Rattle.std.specs.Prelude.{Bool, true, false}
+use Rattle.tz_types.specs.Amount.{is_shift}
 use Rattle.tz_specs.specs.Value.{is_bad_name, is_long_name}
 use Rattle.tz_specs.specs.Written.{WrittenRules, NoRules, FixedSave, RulesNamed}
 use Rattle.tz_records.specs.declared.rules_field.RulesField.{RulesField}

@@ -2,7 +2,7 @@
 ghost use Rattle.std.specs.Prelude.{IsTrue};
 ghost use Rattle.tz_types.specs.Amount.{IsShift};
 ghost use Rattle.tz_types.specs.Format.{is_format};
-ghost use Rattle.tz_records.specs.FixedSave.{is_fixed_save};
+ghost use Rattle.tz_records.specs.FixedSave.{is_entry_save};
 ghost use Rattle.tz_records.specs.FormatField.{format_told, is_visible_format};
 
 use crate::format_field::FormatField;
@@ -27,7 +27,7 @@ pub struct EntryLine<'a> {
     /// Where the line stands in its text, counted from 1.
     pub line: u32,
     pub ghost stdoff_in: { IsShift stdoff },
-    pub ghost save_in: { IsTrue (is_fixed_save rules) },
+    pub ghost save_in: { IsTrue (is_entry_save rules) },
     pub ghost visible: { IsTrue (is_visible_format (format_told format)) },
     pub ghost format_in: { IsTrue (is_format (format_told format)) },
 }

@@ -1,6 +1,7 @@
 //! The format of a zone's line.
 ghost use Rattle.std.specs.Prelude.{◌≡◌, ◌==◌, ◌≤◌, ◌<◌, ◌+◌, [], ◌∷◌, length, position, option_map, IsTrue, IfSome, MatchOption};
 ghost use Rattle.std.specs.List.{list_any, list_all};
+ghost use Rattle.tz_types.specs.declared.limit.TheConstants.{LONGEST_FORMAT, LONGEST_ABBREVIATION};
 ghost use Rattle.tz_types.specs.Text.{is_printable};
 ghost use Rattle.tz_types.specs.Format.{is_format};
 ghost use Rattle.tz_specs.specs.Parts.{parts_at};
@@ -117,7 +118,7 @@ fn parts(field: &[u8]) -> Option<FormatField<'_>>
 pub fn format_field(field: &[u8]) -> Option<FormatField<'_>>
     ensures value { option_map format_told result ≡ format_of field.now }
     ensures visible { IfSome result (λ format. IsTrue (is_visible_format (format_told format))) }
-    ensures form { length field.now ≤ 24 → IfSome result (λ format. IsTrue (is_format (format_told format))) }
+    ensures form { length field.now ≤ LONGEST_FORMAT → IfSome result (λ format. IsTrue (is_format (format_told format))) }
 {
     parts(field)
 }
@@ -125,7 +126,7 @@ pub fn format_field(field: &[u8]) -> Option<FormatField<'_>>
 /// The abbreviation, or the part of a format.
 fn abbreviation(bytes: &[u8]) -> Abbrev
     requires visible { IsTrue (list_all is_printable bytes.now) }
-    requires few { length bytes.now ≤ 32 }
+    requires few { length bytes.now ≤ LONGEST_ABBREVIATION }
     ensures { result ≡ bytes.now }
 {
     let Ok(abbrev) = Abbrev::new(bytes) else {

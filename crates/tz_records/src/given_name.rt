@@ -1,15 +1,16 @@
 //! A name as its line has it.
 ghost use Rattle.std.specs.Prelude.{◌≡◌, false};
 ghost use Rattle.tz_types.specs.Text.{IsText};
+ghost use Rattle.tz_types.specs.declared.limit.TheConstants.{LONGEST_NAME};
 ghost use Rattle.tz_specs.specs.Value.{is_bad_name, is_long_name};
 
 use tz_types::Label;
 
-/// A name as its line has it: 1 to 255 bytes, all from 0x21 to 0x7E.
+/// A name as its line has it: 1 to `LONGEST_NAME` bytes, all from 0x21 to 0x7E.
 #[derive(Clone, Copy, Debug)]
 pub struct GivenName<'a> {
     bytes: &'a [u8],
-    ghost text: { IsText 1 255 bytes.now },
+    ghost text: { IsText 1 LONGEST_NAME bytes.now },
 }
 
 impl<'a> GivenName<'a> {

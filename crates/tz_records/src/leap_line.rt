@@ -2,6 +2,7 @@
 //! or `Expires YEAR MONTH DAY HH:MM:SS`. Dates and moments are in seconds from 1970-01-01 00:00:00.
 ghost use Rattle.std.specs.Prelude.{◌≡◌, ℕ, ◌<◌, ◌≤◌, neg_ℤ, pos, List, Ok, Err, true, nat_lt, option_map, IfOk, IfErr};
 ghost use Rattle.jiff_core.specs.Calendar.{IsBetween};
+ghost use Rattle.tz_types.specs.declared.limit.TheConstants.{MOST_TEXT_LINES};
 ghost use Rattle.tz_specs.specs.LeapLine.{day_causes, leap_day, entry_of, entry_causes, moment_of, expiry_causes, leap_record_of, leap_record_causes, leap_field_causes, leap_record_of_fields, leap_line_says, has_leap_count};
 ghost use Rattle.tz_text.specs.Kept.{kept_of};
 ghost use Rattle.tz_records.specs.Tells.{Tells, unless_late};
@@ -9,9 +10,10 @@ ghost use Rattle.tz_records.specs.LeapRecord.{kind_meant, record_meant, leap_fie
 
 use crate::leap_record::{LeapKind, LeapRecord};
 use crate::leap_values::{correction, is_leap_time, is_stationary, leap_day};
-use crate::values::{has_nul, month, rule_year};
+use crate::opening::cut_fields;
+use crate::values::{month, rule_year};
 use tz_text::{Fields, Joined, second_of_day};
-use tz_types::{Cause, LeapEntry, MOST_LEAPS, On, day_of};
+use tz_types::{Cause, LeapEntry, MOST_LEAPS, MOST_TEXT_LINES, On, day_of};
 
 /// The day of a record, from 1970-01-01, or the least cause of the fields that say it.
 #[tactic(auto, unfolding(tz_specs::specs::LeapLine::leap_day, tz_types::specs::Calendar::day_number))]
@@ -109,9 +111,9 @@ fn record(fields: &Fields<'_>, earlier: usize) -> Result<LeapRecord, Cause>
 
 /// What is said by a line that isn't one too many.
 fn unless_late(told: Option<LeapRecord>, number: u32) -> Result<Option<LeapRecord>, Cause>
-    ensures { result ≡ unless_late (nat_lt 100_000 number) told }
+    ensures { result ≡ unless_late (nat_lt MOST_TEXT_LINES number) told }
 {
-    if number > 100_000 {
+    if number > MOST_TEXT_LINES {
         return Err(Cause::Limit);
     }
     Ok(told)
@@ -141,14 +143,8 @@ pub fn read_leap_line(
     ensures ok { IfOk result (λ said. leap_line_says number earlier line.now ≡ Ok (option_map record_meant said)) }
     ensures err { IfErr result (λ cause. leap_line_says number earlier line.now ≡ Err cause) }
 {
-    if line.len() + 1 > 2_048 {
-        return Err(Cause::LongLine);
+    match cut_fields(line, joined, true) {
+        Ok(fields) => said(&fields, number, earlier),
+        Err(cause) => Err(cause),
     }
-    if has_nul(line) {
-        return Err(Cause::Nul);
-    }
-    let Ok(fields) = Fields::cut(line, joined) else {
-        return Err(Cause::OpenQuote);
-    };
-    said(&fields, number, earlier)
 }

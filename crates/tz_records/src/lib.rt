@@ -4,6 +4,17 @@
 //! `read_line`, as an entry or the least of its causes, and each line of a leap text by `read_leap_line`. Whether a line of a
 //! zone text, or its record, is one too many it asks itself. Records of both kinds of text are defined in `tz_specs`. Nothing
 //! here allocates.
+//!
+//! ```rust
+//! use tz_records::{Entry, read_line};
+//! use tz_text::Joined;
+//!
+//! let mut joined = Joined::new();
+//! let said = read_line(b"Link America/New_York US/Eastern", &mut joined, false, 1, false)?;
+//! if let Some(Entry::Link { target, name, line }) = said {
+//!     assert_eq!(rt; name.as_bytes(), b"US/Eastern".as_slice());
+//! }
+//! ```
 #![tactic(auto)]
 
 mod entry;
@@ -15,6 +26,7 @@ mod leap_record;
 mod leap_values;
 mod line;
 mod link_line;
+mod opening;
 mod recurrence;
 mod rule_line;
 mod rules_field;

@@ -1,7 +1,8 @@
 //! One line of a zone text.
 ghost use Rattle.std.specs.Prelude.{◌≡◌, ℕ, ◌==◌, ◌≤◌, true, false, List, Some, option_map, IfOk, IfErr, length};
 ghost use Rattle.std.specs.List.{list_any};
-ghost use Rattle.tz_text.specs.Kept.{kept_of, most_kept};
+ghost use Rattle.tz_text.specs.declared.kept.TheConstants.{MOST_KEPT};
+ghost use Rattle.tz_text.specs.Kept.{kept_of};
 ghost use Rattle.tz_specs.specs.Record.{has_count, record_of};
 ghost use Rattle.tz_specs.specs.Contents.{Contents, waits, record_causes, field_causes, record_of_fields};
 ghost use Rattle.tz_records.specs.Entry.{written_entry};
@@ -13,8 +14,8 @@ ghost use Rattle.tz_records.specs.LineAlone.{SaysAlone, RefusesAlone};
 use crate::entry::Entry;
 use crate::kind::Kind;
 use crate::link_line::link_entry;
+use crate::opening::cut_fields;
 use crate::rule_line::rule_entry;
-use crate::values::has_nul;
 use crate::zone_record::{continuation_entry, zone_entry};
 use tz_text::{Fields, Joined};
 use tz_types::Cause;
@@ -35,7 +36,7 @@ fn record_entry<'a>(kind: Kind, fields: &Fields<'a>, number: u32) -> Result<Entr
 
 /// What the fields of a line say: an entry, nothing where there are none, or their least cause.
 fn said<'a>(fields: &Fields<'a>, number: u32, waiting: bool) -> Result<Option<Entry<'a>>, Cause>
-    requires { fields.now.count ≤ most_kept → length fields.now.first ≡ fields.now.count }
+    requires { fields.now.count ≤ MOST_KEPT → length fields.now.first ≡ fields.now.count }
     ensures { (before : Contents) (all : List (List ℕ)) → waits before ≡ waiting → kept_of all ≡ fields.now →
         TellsUncounted (option_map written_entry) (exceeds_said before) (field_causes before all) (Some (record_of_fields before number all)) result }
 {
@@ -54,14 +55,6 @@ fn said<'a>(fields: &Fields<'a>, number: u32, waiting: bool) -> Result<Option<En
     }
 }
 
-/// Whether the line has a NUL byte. Only a line of a text that may have one is looked through.
-fn has_nul_byte(line: &[u8], nuls: bool) -> bool
-    requires { nuls ≡ false → list_any (λ byte. byte == 0) line.now ≡ false }
-    ensures { result ≡ list_any (λ byte. byte == 0) line.now }
-{
-    nuls && has_nul(line)
-}
-
 /// What a line of a zone text says by itself: an entry, nothing where it is blank, or its least cause. Nothing is counted here:
 /// `Cause::Limit` comes only for a name that is too long, and an entry may be one too many.
 ///
@@ -78,14 +71,8 @@ pub fn read_line<'a>(
     ensures ok { IfOk result (λ said. SaysAlone waiting number line.now (option_map written_entry said)) }
     ensures err { IfErr result (RefusesAlone waiting line.now) }
 {
-    if line.len() + 1 > 2_048 {
-        return Err(Cause::LongLine);
+    match cut_fields(line, joined, nuls) {
+        Ok(fields) => said(&fields, number, waiting),
+        Err(cause) => Err(cause),
     }
-    if has_nul_byte(line, nuls) {
-        return Err(Cause::Nul);
-    }
-    let Ok(fields) = Fields::cut(line, joined) else {
-        return Err(Cause::OpenQuote);
-    };
-    said(&fields, number, waiting)
 }

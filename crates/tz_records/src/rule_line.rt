@@ -14,7 +14,7 @@ use crate::values::{
     are_visible, is_bad_name, is_long_name, letter_bytes, letters, save, starts_amount,
 };
 use tz_text::Fields;
-use tz_types::{Cause, Letters, Rule};
+use tz_types::{Cause, LONGEST_LETTERS, Letters, Rule};
 
 /// The rule that occurs so, and sets the save and the letters.
 fn rule(recurrence: Recurrence, save: i64, daylight: bool, letters: Letters, line: u32) -> Rule
@@ -53,7 +53,7 @@ pub fn rule_entry<'a>(fields: &Fields<'a>, number: u32) -> Result<Entry<'a>, Cau
     if !are_visible(bytes) {
         return Err(Cause::Format);
     }
-    if bytes.len() > 8 {
+    if bytes.len() > LONGEST_LETTERS {
         return Err(Cause::LongAbbrev);
     }
     if is_long_name(name) {

@@ -2,7 +2,7 @@
 ghost use Rattle.std.specs.Prelude.{◌≡◌, ◌&&◌, false, IsTrue, IfSome, option_map};
 ghost use Rattle.tz_specs.specs.Value.{names_set, is_bad_name, is_long_name, rules_of};
 ghost use Rattle.tz_records.specs.Entry.{written_entry_rules};
-ghost use Rattle.tz_records.specs.FixedSave.{is_fixed_save};
+ghost use Rattle.tz_records.specs.FixedSave.{is_entry_save};
 ghost use Rattle.tz_records.specs.RulesField.{rules_told, has_shift, is_badly_named, is_long_named};
 
 use crate::entry::EntryRules;
@@ -45,7 +45,7 @@ impl<'a> RulesField<'a> {
         }
     }
 
-    /// Whether the name of a rule set has more than 255 bytes.
+    /// Whether the name of a rule set has more than `LONGEST_NAME` bytes.
     pub fn is_long_named(&self) -> bool
         ensures { result ≡ is_long_named self.now }
     {
@@ -61,7 +61,7 @@ impl<'a> RulesField<'a> {
         requires good { is_badly_named self ≡ false }
         requires short { is_long_named self ≡ false }
         ensures value { written_entry_rules result ≡ rules_told self.entry }
-        ensures save { IsTrue (is_fixed_save result) }
+        ensures save { IsTrue (is_entry_save result) }
     {
         match self {
             RulesField::Plain => EntryRules::Plain,

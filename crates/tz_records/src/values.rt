@@ -1,14 +1,15 @@
 //! The values of single fields.
 ghost use Rattle.std.specs.Prelude.{◌≡◌, ◌==◌, ◌≤◌, false, IsTrue, IfSome, length};
 ghost use Rattle.std.specs.List.{list_any, list_all};
+ghost use Rattle.tz_types.specs.declared.limit.TheConstants.{LONGEST_LETTERS};
 ghost use Rattle.tz_types.specs.Text.{is_printable};
 ghost use Rattle.tz_types.specs.Year.{IsWrittenYear, IsRuleYear};
-ghost use Rattle.tz_types.specs.Amount.{IsShift, IsTimeOfDay};
+ghost use Rattle.tz_types.specs.Amount.{is_shift, IsShift, IsTimeOfDay};
 ghost use Rattle.tz_types.specs.Calendar.{has_day, has_day_through};
 ghost use Rattle.tz_specs.specs.Value.{is_exactly, is_dash, rule_year_of, last_year_named, years_of, month_named, rule_day_of, until_day_of, kind_of, time_of, stdoff_of, is_daylight, save_of, is_bad_name, is_long_name, starts_amount, letters_of};
 
 use tz_text::{amount, named_among, on, year};
-use tz_types::{AtKind, Letters, Month, On, has_day, has_day_through};
+use tz_types::{AtKind, LONGEST_NAME, LONGEST_SHIFT, Letters, Month, On, has_day, has_day_through};
 
 const MONTHS: [&[u8]; 12] = [
     b"January",
@@ -158,7 +159,7 @@ pub fn time(field: &[u8]) -> Option<(i64, AtKind)>
 fn is_shift(seconds: i64) -> bool
     ensures { result ≡ is_shift seconds }
 {
-    seconds.unsigned_abs() <= 86_400
+    seconds.unsigned_abs() <= u64::from(LONGEST_SHIFT)
 }
 
 /// A standard offset, in seconds.
@@ -212,11 +213,11 @@ pub fn is_bad_name(field: &[u8]) -> bool
     field.is_empty() || !are_visible(field)
 }
 
-/// Whether a name has more than 255 bytes.
+/// Whether a name has more than `LONGEST_NAME` bytes.
 pub fn is_long_name(field: &[u8]) -> bool
     ensures { result ≡ is_long_name field.now }
 {
-    field.len() > 255
+    field.len() > LONGEST_NAME
 }
 
 /// Whether the field starts as an amount does, and so is no rule's name.
@@ -236,21 +237,14 @@ pub fn letter_bytes(field: &[u8]) -> &[u8]
     if is_dash(field) { &[] } else { field }
 }
 
-/// The letters of at most 8 visible bytes.
+/// The letters of at most `LONGEST_LETTERS` visible bytes.
 pub fn letters(bytes: &[u8]) -> Letters
     requires visible { IsTrue (list_all is_printable bytes.now) }
-    requires few { length bytes.now ≤ 8 }
+    requires few { length bytes.now ≤ LONGEST_LETTERS }
     ensures { result ≡ bytes.now }
 {
     let Ok(letters) = Letters::new(bytes) else {
         unreachable!()
     };
     letters
-}
-
-/// Whether the line has a NUL byte.
-pub fn has_nul(line: &[u8]) -> bool
-    ensures { result ≡ list_any (λ byte. byte == 0) line.now }
-{
-    line.iter().any(|byte| *byte == 0)
 }

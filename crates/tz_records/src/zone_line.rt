@@ -2,12 +2,12 @@
 ghost use Rattle.std.specs.Prelude.{◌≡◌, ◌||◌, IsTrue, ◌+◌, ◌≤◌, ◌<◌, ◌^◌, drop, length, option_map};
 ghost use Rattle.tz_types.specs.Amount.{IsShift};
 ghost use Rattle.tz_types.specs.Format.{is_format};
-ghost use Rattle.tz_text.specs.Kept.{most_kept};
+ghost use Rattle.tz_text.specs.declared.kept.TheConstants.{MOST_KEPT};
 ghost use Rattle.tz_specs.specs.Value.{field_at, field_or};
 ghost use Rattle.tz_specs.specs.Written.{written_until};
 ghost use Rattle.tz_specs.specs.Record.{written_end, until_of, line_of, line_causes};
 ghost use Rattle.tz_records.specs.Entry.{written_entry_rules, written_entry_line};
-ghost use Rattle.tz_records.specs.FixedSave.{is_fixed_save};
+ghost use Rattle.tz_records.specs.FixedSave.{is_entry_save};
 ghost use Rattle.tz_records.specs.FormatField.{format_told, is_visible_format};
 ghost use Rattle.tz_records.specs.RulesField.{is_long_named};
 ghost use Rattle.tz_records.specs.LineFields.{end_causes, until_causes, line_with};
@@ -18,12 +18,12 @@ use crate::format_field::{FormatField, format_field};
 use crate::rules_field::{RulesField, rules_field};
 use crate::values::{month, rule_year, standard_offset, time, until_day};
 use tz_text::Fields;
-use tz_types::{Cause, Moment, Until};
+use tz_types::{Cause, LONGEST_FORMAT, Moment, Until};
 
 /// The field at a place behind the first, or what stands for it where it is missing.
 #[tactic(auto, using(crate::proofs::ZoneLines::later_field))]
 fn field_or<'a>(fields: &Fields<'a>, first: usize, place: usize, missing: &'static [u8]) -> &'a [u8]
-    requires few { fields.now.count ≤ most_kept }
+    requires few { fields.now.count ≤ MOST_KEPT }
     requires whole { length fields.now.first ≡ fields.now.count }
     requires within { first + place < 2 ^ 32 }
     ensures { result.now ≡ field_or missing.now place (drop first fields.now.first) }
@@ -37,7 +37,7 @@ fn field_or<'a>(fields: &Fields<'a>, first: usize, place: usize, missing: &'stat
 
 /// The same where a field that is missing has no bytes.
 fn field_at<'a>(fields: &Fields<'a>, first: usize, place: usize) -> &'a [u8]
-    requires few { fields.now.count ≤ most_kept }
+    requires few { fields.now.count ≤ MOST_KEPT }
     requires whole { length fields.now.first ≡ fields.now.count }
     requires within { first + place < 2 ^ 32 }
     ensures { result.now ≡ field_at place (drop first fields.now.first) }
@@ -48,7 +48,7 @@ fn field_at<'a>(fields: &Fields<'a>, first: usize, place: usize) -> &'a [u8]
 /// The UNTIL of a line that has one, or the least cause of its fields.
 #[tactic(auto, unfolding(crate::specs::LineFields::end_causes, tz_specs::specs::Record::written_end))]
 fn written_end(fields: &Fields<'_>, first: usize) -> Result<Until, Cause>
-    requires few { fields.now.count ≤ most_kept }
+    requires few { fields.now.count ≤ MOST_KEPT }
     requires whole { length fields.now.first ≡ fields.now.count }
     requires within { first ≤ 2 }
     ensures { Tells written_until (end_causes (drop first fields.now.first)) (written_end (drop first fields.now.first)) result }
@@ -80,7 +80,7 @@ fn written_end(fields: &Fields<'_>, first: usize) -> Result<Until, Cause>
 /// The UNTIL of a line, none where it has none, or the least cause of its fields.
 #[tactic(auto, using(crate::proofs::ZoneLines::without_until, crate::proofs::ZoneLines::until_refused, crate::proofs::ZoneLines::until_told))]
 fn until(fields: &Fields<'_>, first: usize) -> Result<Option<Until>, Cause>
-    requires few { fields.now.count ≤ most_kept }
+    requires few { fields.now.count ≤ MOST_KEPT }
     requires whole { length fields.now.first ≡ fields.now.count }
     requires within { first ≤ 2 }
     ensures { Tells (option_map written_until) (until_causes (drop first fields.now.first)) (until_of (drop first fields.now.first)) result }
@@ -103,7 +103,7 @@ fn entry_line<'a>(
     line: u32,
 ) -> EntryLine<'a>
     requires stdoff_in { IsShift stdoff }
-    requires save_in { IsTrue (is_fixed_save rules) }
+    requires save_in { IsTrue (is_entry_save rules) }
     requires visible { IsTrue (is_visible_format (format_told format)) }
     requires format_in { IsTrue (is_format (format_told format)) }
     ensures { written_entry_line result ≡ line_with stdoff (written_entry_rules rules.entry) (format_told format.entry) (option_map written_until until) line }
@@ -133,7 +133,7 @@ pub fn zone_line<'a>(
     badly_named: bool,
     long_named: bool,
 ) -> Result<EntryLine<'a>, Cause>
-    requires few { fields.now.count ≤ most_kept }
+    requires few { fields.now.count ≤ MOST_KEPT }
     requires whole { length fields.now.first ≡ fields.now.count }
     requires within { first ≤ 2 }
     ensures { Tells written_entry_line (line_causes badly_named long_named (drop first fields.now.first)) (line_of number (drop first fields.now.first)) result }
@@ -155,7 +155,7 @@ pub fn zone_line<'a>(
     let Some(format) = format_field(field) else {
         return Err(Cause::Format);
     };
-    if field.len() > 24 {
+    if field.len() > LONGEST_FORMAT {
         return Err(Cause::LongAbbrev);
     }
     if has_long_name(&rules, long_named) {

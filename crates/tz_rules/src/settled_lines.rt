@@ -2,7 +2,7 @@
 //!
 //! The lines of a text give a set by the place of its name among the names of sets that the text mentions; those of a
 //! database give it by the place of the set itself.
-ghost use Rattle.std.specs.Prelude.{◌≡◌, ℕ, List, map, IsTrue, IfOk};
+ghost use Rattle.std.specs.Prelude.{◌≡◌, ℕ, List, length, map, IsTrue, IfOk};
 ghost use Rattle.std.specs.List.{list_all};
 ghost use Rattle.tz_types.specs.declared.rule_set.RuleSet.{RuleSet};
 ghost use Rattle.tz_types.specs.declared.zone.Zone.{Zone as DeclaredZone};
@@ -39,7 +39,8 @@ fn settle_line(line: &mut ZoneLine, places: &[Option<u32>])
 /// The lines of a zone, each changed where it lies.
 fn settled_lines(lines: Items<ZoneLine>, places: &[Option<u32>]) -> Items<ZoneLine>
     requires { IsTrue (have_sets places.now lines) }
-    ensures { (sets : List RuleSet) → (names : List (List ℕ)) → ArePlaces places.now sets names → AreSettled sets names lines result }
+    ensures count { length result ≡ length lines }
+    ensures settled { (sets : List RuleSet) → (names : List (List ℕ)) → ArePlaces places.now sets names → AreSettled sets names lines result }
 {
     let mut lines = lines.into_vec();
     for line in lines.iter_mut() {

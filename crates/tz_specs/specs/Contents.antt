@@ -1,13 +1,12 @@
 -- What the lines of zone texts give, one after another and file after file: rule sets, zones and links.
-use Rattle.std.specs.Prelude.{ℕ, ◌+◌, ◌==◌, nat_le, nat_lt, Bool, true, false, not, ◌&&◌, ◌||◌, if◌then◌else◌, List, [], ◌∷◌, ◌++◌, length, find, drop, Option, Some, None, is_some, Result, Ok, Err}
-use Rattle.std.specs.Option.{is_none}
-use Rattle.std.specs.List.{list_any, last_or}
+use Rattle.std.specs.Prelude.{ℕ, ◌+◌, nat_le, Bool, true, false, not, ◌&&◌, ◌||◌, if◌then◌else◌, List, [], ◌∷◌, ◌++◌, length, find, drop, Option, Some, None, is_some, Result, Ok, Err}
+use Rattle.std.specs.List.{last_or}
 use Rattle.tz_types.specs.Order.{name_before}
 use Rattle.tz_types.specs.declared.limit.TheConstants.{MOST_RULES, MOST_SETS, MOST_ZONES, MOST_ZONE_LINES, MOST_LINKS}
 use Rattle.tz_types.specs.declared.cause.Cause.{Cause}
 use Rattle.tz_types.specs.declared.cause.Cause.TheVariants as causes
 use Rattle.tz_types.specs.declared.fault.LineFault.{LineFault}
-use Rattle.tz_specs.specs.Line.{lines_of, line_length}
+use Rattle.tz_specs.specs.Line.{lines_of}
 use Rattle.tz_specs.specs.Field.{fields_of}
 use Rattle.tz_specs.specs.Choice.{◌>>=◌}
 use Rattle.tz_specs.specs.Causes.{least_cause, unless_cause, fault_at}

@@ -2,9 +2,8 @@
 -- a second is added at the end of that day, `Leap YEAR MONTH DAY 23:59:59 - S` that its last one is skipped, and
 -- `Expires YEAR MONTH DAY HH:MM:SS` from which moment on the table isn't known to hold. The date of a leap second is the
 -- midnight that follows the day.
-use Rattle.std.specs.Prelude.{ℕ, ◌+◌, ◌*◌, nat_le, nat_lt, nat_eq, Bool, true, false, not, ◌==◌, ◌||◌, if◌then◌else◌, List, [], ◌∷◌, ◌++◌, length, codes, slice_get, ℤ, pos, ◌+ℤ◌, ◌*ℤ◌, Option, Some, None, option_map, Result}
+use Rattle.std.specs.Prelude.{ℕ, ◌+◌, ◌*◌, nat_le, nat_eq, Bool, true, false, not, ◌==◌, ◌||◌, if◌then◌else◌, List, [], ◌∷◌, ◌++◌, length, codes, slice_get, ℤ, pos, ◌+ℤ◌, ◌*ℤ◌, Option, Some, None, option_map, Result}
 use Rattle.std.specs.Option.{is_none}
-use Rattle.std.specs.List.{list_any}
 use Rattle.jiff_core.specs.Calendar.{days_from_civil, days_in_month}
 use Rattle.tz_types.specs.Calendar.{month_number, is_day_up_to}
 use Rattle.tz_types.specs.declared.limit.TheConstants.{MOST_LEAPS}
@@ -12,7 +11,6 @@ use Rattle.tz_types.specs.declared.calendar.Month.{Month}
 use Rattle.tz_types.specs.declared.cause.Cause.{Cause}
 use Rattle.tz_types.specs.declared.cause.Cause.TheVariants as causes
 use Rattle.tz_types.specs.declared.leap_entry.LeapEntry.{LeapEntry}
-use Rattle.tz_specs.specs.Line.{line_length}
 use Rattle.tz_specs.specs.Field.{fields_of}
 use Rattle.tz_specs.specs.Choice.{◌>>=◌, only_if}
 use Rattle.tz_specs.specs.Parts.{parts_at}

@@ -2,6 +2,7 @@
 use Rattle.std.specs.Prelude.{ℕ, ◌==◌, nat_le, nat_lt, Bool, true, false, not, ◌&&◌, ◌||◌, if◌then◌else◌, List, [], ◌∷◌, length, drop, codes, slice_get, Option, Some, None, option_map}
 use Rattle.std.specs.Option.{is_none}
 use Rattle.std.specs.List.{list_all}
+use Rattle.tz_types.specs.declared.limit.TheConstants.{LONGEST_FORMAT, LONGEST_LETTERS}
 use Rattle.tz_types.specs.Text.{is_printable}
 use Rattle.tz_types.specs.declared.calendar.On.{On}
 use Rattle.tz_types.specs.declared.cause.Cause.{Cause}
@@ -70,7 +71,7 @@ rule_causes too_many fields =
     ∷ (causes.Save, is_none (save_of (field_at 8 fields)))
     ∷ (causes.BadName, is_bad_name (field_at 1 fields) || starts_amount (field_at 1 fields))
     ∷ (causes.Format, not (list_all is_printable (letters_of (field_at 9 fields))))
-    ∷ (causes.LongAbbrev, nat_lt 8 (length (letters_of (field_at 9 fields))))
+    ∷ (causes.LongAbbrev, nat_lt LONGEST_LETTERS (length (letters_of (field_at 9 fields))))
     ∷ (causes.Limit, is_long_name (field_at 1 fields) || too_many)
     ∷ []
 
@@ -119,7 +120,7 @@ line_causes badly_named too_many fields =
     ∷ (causes.Save, is_none (rules_of (field_at 1 fields)))
     ∷ (causes.BadName, badly_named || (names_set (field_at 1 fields) && is_bad_name (field_at 1 fields)))
     ∷ (causes.Format, is_none (format_of (field_at 2 fields)))
-    ∷ (causes.LongAbbrev, nat_lt 24 (length (field_at 2 fields)))
+    ∷ (causes.LongAbbrev, nat_lt LONGEST_FORMAT (length (field_at 2 fields)))
     ∷ (causes.Limit, too_many || (names_set (field_at 1 fields) && is_long_name (field_at 1 fields)))
     ∷ []
 

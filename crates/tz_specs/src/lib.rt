@@ -1,5 +1,14 @@
 //! What texts and zones mean. There is no code here: only definitions, in `specs/`, one file a subject,
 //! and laws about them, each the contract of a public function with an empty body.
+//!
+//! A law is read from the contract of its function. `ranges_cover_time`, for one, says: lines that follow one another in time
+//! give ranges that do, each beginning where the one before it ends. A proof in a crate above cites it by a call:
+//!
+//! ```rust
+//! use tz_specs::ranges_cover_time;
+//!
+//! ranges_cover_time();        // costs nothing, and from here on the check knows the law
+//! ```
 #![tactic(auto)]
 
 mod around_laws;

@@ -6,7 +6,8 @@ use Rattle.std.proofs.lemmas.Bool.{cases_lt}
 use Rattle.std.proofs.lemmas.List.{take_all, take_at, take_more_set, set_past, map-set, length-take, length-map, append-nil, take-take, drop-take, length_push}
 use Rattle.std.proofs.lemmas.List.Elements.{All-set}
 use Rattle.tz_specs.specs.Field.{fields_from, fields_of, Between}
-use Rattle.tz_text.specs.Kept.{Kept, kept_of, with_later, with_field, most_kept}
+use Rattle.tz_text.specs.declared.kept.TheConstants.{MOST_KEPT}
+use Rattle.tz_text.specs.Kept.{Kept, kept_of, with_later, with_field}
 use Rattle.tz_text.specs.Spans.{bytes_of, LiesIn, with_span, kept_in, IsField}
 use Rattle.tz_text.specs.declared.cut.spans.Field.{Field}
 use Rattle.tz_text.specs.declared.cut.spans.Span.{Span}
@@ -30,8 +31,8 @@ with_later_field kept field later =
     same_kept
     _
     _
-    (take_again most_kept (kept.first ++ field ∷ []) later
-    ∙ ap (take most_kept) (append_assoc kept.first (field ∷ []) later))
+    (take_again MOST_KEPT (kept.first ++ field ∷ []) later
+    ∙ ap (take MOST_KEPT) (append_assoc kept.first (field ∷ []) later))
     (omega arith)
 
 pub with_later_map :
@@ -42,21 +43,21 @@ with_later_map kept field None = refl
 with_later_map kept field (Some later) = ap (λ all. Some all) (sym (with_later_field kept field later))
 
 pub take_more_places :
-    {X : Type 0} (n : ℕ) (xs : List X) (y : X) → length xs ≡ 10 → take (n + 1) (set xs n y) ≡ take 10 (take n xs ++ y ∷ [])
+    {X : Type 0} (n : ℕ) (xs : List X) (y : X) → length xs ≡ MOST_KEPT → take (n + 1) (set xs n y) ≡ take MOST_KEPT (take n xs ++ y ∷ [])
 take_more_places n xs y ten =
     ⊎_elim
-    (λ (lt : n < 10).
+    (λ (lt : n < MOST_KEPT).
     let within : n < length xs = omega arith in
-    let short : length (take n xs ++ y ∷ []) ≤ 10 = grind (arith, length-take, length_push) in
-    take_more_set xs n y within ∙ sym (take_all 10 (take n xs ++ y ∷ []) short))
-    (λ (le : 10 ≤ n).
+    let short : length (take n xs ++ y ∷ []) ≤ MOST_KEPT = grind (arith, length-take, length_push) in
+    take_more_set xs n y within ∙ sym (take_all MOST_KEPT (take n xs ++ y ∷ []) short))
+    (λ (le : MOST_KEPT ≤ n).
     rw
     (set_past xs n y (omega arith), take_all (n + 1) xs (omega arith), take_all n xs (omega arith))
-    (sym (take_at xs (y ∷ []) 10 ten)))
-    (cases_lt n 10)
+    (sym (take_at xs (y ∷ []) MOST_KEPT ten)))
+    (cases_lt n MOST_KEPT)
 
 pub kept_with_span :
-    (line joined : List ℕ) (spans : Spans) (span : Span) → length spans.first ≡ 10
+    (line joined : List ℕ) (spans : Spans) (span : Span) → length spans.first ≡ MOST_KEPT
     → kept_in line joined (with_span spans span) ≡ with_field (kept_in line joined spans) (bytes_of line joined span)
 kept_with_span line joined spans span ten =
     same_kept
@@ -119,7 +120,7 @@ kept_same line earlier joined spans same lie =
 
 -- one field more
 pub one_more :
-    (line earlier joined : List ℕ) (spans : Spans) (index : ℕ) (field : Field) → length spans.first ≡ 10
+    (line earlier joined : List ℕ) (spans : Spans) (index : ℕ) (field : Field) → length spans.first ≡ MOST_KEPT
     → All (LiesIn line earlier) spans.first → IsField line earlier joined (index + 1) (fields_from Between [] (drop index line)) field
     → option_map (with_later (kept_in line earlier spans)) (fields_from Between [] (drop index line))
     ≡ option_map
@@ -151,15 +152,15 @@ all_lie line earlier joined spans index field lie is =
 
 -- nothing follows
 pub kept_whole :
-    (line joined : List ℕ) (spans : Spans) → length spans.first ≡ 10
+    (line joined : List ℕ) (spans : Spans) → length spans.first ≡ MOST_KEPT
     → with_later (kept_in line joined spans) [] ≡ kept_in line joined spans
 kept_whole line joined spans ten =
-    let short : length (take spans.count (map (bytes_of line joined) spans.first)) ≤ 10 =
+    let short : length (take spans.count (map (bytes_of line joined) spans.first)) ≤ MOST_KEPT =
     omega (arith, length-take spans.count (map (bytes_of line joined) spans.first), length-map spans.first (bytes_of line joined)) in
     same_kept
     _
     _
-    (ap (take 10) (append-nil (take spans.count (map (bytes_of line joined) spans.first))) ∙ take_all 10 _ short)
+    (ap (take MOST_KEPT) (append-nil (take spans.count (map (bytes_of line joined) spans.first))) ∙ take_all MOST_KEPT _ short)
     (omega arith)
 
 -- nothing was kept before
@@ -169,7 +170,7 @@ kept_none None = refl
 kept_none (Some all) = ap (λ kept. Some kept) (same_kept _ _ refl (omega arith))
 
 pub all_kept :
-    (line joined : List ℕ) (spans : Spans) (index : ℕ) → length spans.first ≡ 10
+    (line joined : List ℕ) (spans : Spans) (index : ℕ) → length spans.first ≡ MOST_KEPT
     → fields_from Between [] (drop index line) ≡ Some []
     → option_map (with_later (kept_in line joined spans)) (fields_from Between [] (drop index line))
     ≡ option_map kept_of (fields_of line)

@@ -3,6 +3,7 @@ use Rattle.std.specs.Prelude.{◌≡◌, ℕ, ◌+◌, ◌≤◌, List, [], ◌�
 use Rattle.std.specs.List.{slice_range}
 use Rattle.std.specs.Option.{option_map}
 use Rattle.tz_specs.specs.Field.{fields_from, Between}
+use Rattle.tz_text.specs.declared.kept.TheConstants.{MOST_KEPT}
 use Rattle.tz_text.specs.Kept.{Kept}
 use Rattle.tz_text.specs.declared.cut.spans.Span.{Span}
 use Rattle.tz_text.specs.declared.cut.spans.Span.TheVariants.{Line, Joined}
@@ -21,7 +22,7 @@ LiesIn line joined (Joined start end) = (start ≤ end) × (end ≤ length joine
 
 -- no field yet
 abbrev pub no_spans : Spans
-no_spans = record { first = replicate 10 (Line 0 0); count = 0 }
+no_spans = record { first = replicate MOST_KEPT (Line 0 0); count = 0 }
 
 -- one field more: its place is kept while there is room
 abbrev pub with_span : Spans → Span → Spans

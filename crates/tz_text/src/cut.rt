@@ -3,22 +3,26 @@
 //! A field is a part of the line wherever its bytes stand there in one piece. Only a field that joins pieces,
 //! as `a"b c"d`, is copied, into room that the caller gives and that serves for each line anew.
 ghost use Rattle.std.specs.Prelude.{◌≡◌, ℕ, ◌+◌, ◌<◌, ◌≤◌, [], Some, None, ◌++◌, length, drop, IfOk, OnErr, slice_index_or, slice_range};
+ghost use Rattle.tz_types.specs.declared.limit.TheConstants.{LONGEST_LINE};
 ghost use Rattle.tz_specs.specs.Field.{fields_from, fields_of, Between, Inside};
 ghost use Rattle.tz_text.specs.Piece.{BeginsPiece};
 ghost use Rattle.tz_text.specs.Spans.{IsField, LiesIn, kept_in};
-ghost use Rattle.tz_text.specs.Kept.{kept_of, most_kept};
+ghost use Rattle.tz_text.specs.declared.kept.TheConstants.{MOST_KEPT};
+ghost use Rattle.tz_text.specs.Kept.{kept_of};
 ghost use Rattle.std.specs.List.{All};
 ghost use Rattle.std.specs.Option.{option_map};
 
 mod scan;
 mod spans;
 
+use crate::kept::MOST_KEPT;
 use arrayvec::ArrayVec;
 use scan::{Piece, ends_field, piece_at, skip_white};
 use spans::{Field, Span, Spans};
 use std::error::Error;
 use std::fmt;
 use std::marker::Model;
+use tz_types::LONGEST_LINE;
 
 /// A quoted piece of the line isn't closed.
 #[derive(Clone, Copy, Debug, PartialEq, Eq)]
@@ -39,7 +43,7 @@ impl Error for OpenQuote {}
 /// Room for those fields of a line that join pieces.
 #[derive(Drop)]
 pub struct Joined {
-    bytes: ArrayVec<u8, 2048>,
+    bytes: ArrayVec<u8, LONGEST_LINE>,
 }
 
 impl Joined {
@@ -51,14 +55,14 @@ impl Joined {
     }
 
     fn append(&mut self, piece: &[u8])
-        requires { length self.old.bytes.items + length piece.now ≤ 2048 }
+        requires { length self.old.bytes.items + length piece.now ≤ LONGEST_LINE }
         ensures { self.new.bytes.items ≡ self.old.bytes.items ++ piece.now }
     {
         let _ = self.bytes.try_extend_from_slice(piece);
     }
 }
 
-/// The fields of a line: how many there are, and the first ten.
+/// The fields of a line: how many there are, and the first `MOST_KEPT`.
 #[derive(Drop)]
 pub struct Fields<'a> {
     line: &'a [u8],
@@ -85,13 +89,13 @@ impl<'a> Fields<'a> {
     /// `joined` keeps the bytes of fields that join pieces; what it had is gone.
     /// `OpenQuote` comes exactly where a quoted piece isn't closed.
     pub fn cut(line: &'a [u8], joined: &'a mut Joined) -> Result<Self, OpenQuote>
-        requires { length line.now ≤ 2048 }
+        requires { length line.now ≤ LONGEST_LINE }
         ensures ok { IfOk result (λ fields. option_map kept_of (fields_of line.now) ≡ Some fields) }
         ensures err { OnErr result (fields_of line.now ≡ None) }
 
-        // Up to ten fields are all there.
-        ensures whole { IfOk result (λ fields. fields.count ≤ most_kept → fields_of line.now ≡ Some fields.first) }
-        ensures counted { IfOk result (λ fields. fields.count ≤ most_kept → length fields.first ≡ fields.count) }
+        // Up to so many fields are all there.
+        ensures whole { IfOk result (λ fields. fields.count ≤ MOST_KEPT → fields_of line.now ≡ Some fields.first) }
+        ensures counted { IfOk result (λ fields. fields.count ≤ MOST_KEPT → length fields.first ≡ fields.count) }
     {
         let spans = spans_of(line, joined)?;
         Ok(Fields {
@@ -101,7 +105,7 @@ impl<'a> Fields<'a> {
         })
     }
 
-    /// How many fields the line has, also where that is more than ten.
+    /// How many fields the line has, also where that is more than `MOST_KEPT`.
     pub fn count(&self) -> usize
         ensures { result ≡ self.now.count }
     {
@@ -110,7 +114,7 @@ impl<'a> Fields<'a> {
 
     /// The bytes of the field `index`, counted from 0.
     pub fn get(&self, index: usize) -> &'a [u8]
-        requires kept { index < most_kept }
+        requires kept { index < MOST_KEPT }
         requires there { index < self.now.count }
         ensures { result.now ≡ slice_index_or self.now.first index [] }
     {
@@ -123,7 +127,7 @@ impl<'a> Fields<'a> {
 
 /// The places of the line's fields.
 fn spans_of(line: &[u8], joined: &mut Joined) -> Result<Spans, OpenQuote>
-    requires { length line.now ≤ 2048 }
+    requires { length line.now ≤ LONGEST_LINE }
     ensures lie { IfOk result (λ spans. All (LiesIn line.now joined.new.bytes.items) spans.first) }
     ensures ok { IfOk result (λ spans. option_map kept_of (fields_of line.now) ≡ Some (kept_in line.now joined.new.bytes.items spans)) }
     ensures err { OnErr result (fields_of line.now ≡ None) }
@@ -141,7 +145,7 @@ fn spans_of(line: &[u8], joined: &mut Joined) -> Result<Spans, OpenQuote>
 
 /// The field that begins at `index`. `OpenQuote` comes exactly where a quoted piece of it isn't closed.
 fn field_at(line: &[u8], index: usize, joined: &mut Joined) -> Result<Field, OpenQuote>
-    requires short { length line.now ≤ 2048 }
+    requires short { length line.now ≤ LONGEST_LINE }
     requires begins { BeginsPiece line.now index }
     requires room { length joined.old.bytes.items ≤ index }
     ensures ok { IfOk result (IsField line.now joined.old.bytes.items joined.new.bytes.items (index + 1) (fields_from Between [] (drop index line.now))) }
@@ -162,7 +166,7 @@ fn field_at(line: &[u8], index: usize, joined: &mut Joined) -> Result<Field, Ope
 
 /// The field that begins with the piece `first`, its pieces joined behind what `joined` has.
 fn join(line: &[u8], first: Piece, joined: &mut Joined) -> Result<Field, OpenQuote>
-    requires short { length line.now ≤ 2048 }
+    requires short { length line.now ≤ LONGEST_LINE }
     requires order { first.start ≤ first.end }
     requires closed { first.end ≤ first.after }
     requires within { first.after ≤ length line.now }
@@ -194,12 +198,12 @@ mod tests {
     use std::test::Fail;
 
     fn gives(rt: &impl Abort, joined: &mut Joined, line: &str, wanted: &[&str]) {
-        assert!(rt; line.len() <= 2048);
+        assert!(rt; line.len() <= LONGEST_LINE);
         match Fields::cut(line.as_bytes(), joined) {
             Ok(fields) => {
                 assert_eq!(rt; fields.count(), wanted.len(), "{line:?}");
                 for (index, field) in wanted.iter().enumerate() {
-                    if index < 10 && index < fields.count() {
+                    if index < MOST_KEPT && index < fields.count() {
                         assert_eq!(rt; fields.get(index), field.as_bytes(), "{line:?}");
                     }
                 }
@@ -209,7 +213,7 @@ mod tests {
     }
 
     fn is_open(rt: &impl Abort, joined: &mut Joined, line: &str) {
-        assert!(rt; line.len() <= 2048);
+        assert!(rt; line.len() <= LONGEST_LINE);
         assert!(rt; Fields::cut(line.as_bytes(), joined).is_err(), "{line:?}");
     }
 

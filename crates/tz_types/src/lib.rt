@@ -3,6 +3,14 @@
 //! Each type keeps its ranges and orders itself, so that the layers above need no tests of their own.
 //! Years are proleptic Gregorian, instants and amounts are whole seconds from 1970-01-01 00:00:00.
 //! The crate stands on `jiff_core` for civil days and on `arrayvec` for texts of fixed room.
+//!
+//! ```rust
+//! use tz_types::{AtKind, Moment, Month, On, nominal};
+//!
+//! // zic's `1883 Nov 18 17:00u`, in seconds from 1970-01-01 00:00:00
+//! let moment = Moment { month: Month::November, on: On::Day(18), at: 61_200, kind: AtKind::Universal };
+//! assert_eq!(rt; nominal(1883, &moment), -2_717_650_800);
+//! ```
 #![tactic(auto)]
 
 mod calendar;
@@ -43,8 +51,9 @@ pub use leap_entry::LeapEntry;
 pub use leap_info::LeapInfo;
 pub use leaps::Leaps;
 pub use limit::{
-    LONGEST_LINE, LONGEST_NAME, LONGEST_SHIFT, LONGEST_VERSION, MOST_BYTES, MOST_FILES, MOST_LEAPS,
-    MOST_LINKS, MOST_RULES, MOST_SETS, MOST_TEXT_LINES, MOST_ZONE_LINES, MOST_ZONES,
+    LONGEST_ABBREVIATION, LONGEST_FORMAT, LONGEST_LETTERS, LONGEST_LINE, LONGEST_NAME,
+    LONGEST_SHIFT, LONGEST_VERSION, MOST_BYTES, MOST_FILES, MOST_LEAPS, MOST_LINKS, MOST_RULES,
+    MOST_SETS, MOST_TEXT_LINES, MOST_ZONE_LINES, MOST_ZONES,
 };
 pub use link::Link;
 pub use list::Items;

@@ -18,6 +18,15 @@ pub const LONGEST_NAME: usize = 255;
 /// The most bytes of a version.
 pub const LONGEST_VERSION: usize = 64;
 
+/// The most bytes of a format, as its line writes it.
+pub const LONGEST_FORMAT: usize = 24;
+
+/// The most bytes of the letters that a rule puts in place of `%s`.
+pub const LONGEST_LETTERS: usize = 8;
+
+/// The most bytes of an abbreviation: a format with letters or an offset put in.
+pub const LONGEST_ABBREVIATION: usize = 32;
+
 /// The most seconds of a standard offset or a save, with either sign: a day.
 pub const LONGEST_SHIFT: u32 = 86_400;
 

@@ -3,7 +3,7 @@ ghost use Rattle.std.specs.Prelude.{◌≡◌, ◌≤◌, ◌↔◌, [], length,
 ghost use Rattle.std.specs.List.{list_all};
 ghost use Rattle.tz_types.specs.Text.{is_printable, IsText};
 
-use crate::limit::{LONGEST_NAME, LONGEST_VERSION};
+use crate::limit::{LONGEST_ABBREVIATION, LONGEST_LETTERS, LONGEST_NAME, LONGEST_VERSION};
 use arrayvec::ArrayVec;
 use std::error::Error;
 use std::fmt;
@@ -35,10 +35,10 @@ pub struct PrintableText<const LEAST: usize, const MOST: usize> {
 pub type Label = PrintableText<1, LONGEST_NAME>;
 
 /// The letters that a rule puts in place of `%s`.
-pub type Letters = PrintableText<0, 8>;
+pub type Letters = PrintableText<0, LONGEST_LETTERS>;
 
 /// An abbreviation, or a part of a format.
-pub type Abbrev = PrintableText<0, 32>;
+pub type Abbrev = PrintableText<0, LONGEST_ABBREVIATION>;
 
 /// The version that a text names in its first line.
 pub type VersionText = PrintableText<1, LONGEST_VERSION>;

@@ -1,6 +1,8 @@
 //! Where the fields of a line stand.
 ghost use Rattle.std.specs.Prelude.{◌≡◌, ◌<◌, ◌^◌, length};
 
+use crate::kept::MOST_KEPT;
+
 /// Where the bytes of a field stand: in the line, or in the bytes that were joined.
 #[derive(Clone, Copy)]
 pub(super) enum Span {
@@ -15,10 +17,10 @@ pub(super) struct Field {
     pub after: usize,
 }
 
-/// How many fields a line has, and where the first ten stand.
+/// How many fields a line has, and where the first of them stand, as many as are kept.
 #[derive(Clone, Copy)]
 pub(super) struct Spans {
-    pub first: [Span; 10],
+    pub first: [Span; MOST_KEPT],
     pub count: usize,
 }
 
@@ -30,7 +32,7 @@ impl Spans {
         ensures { result ≡ no_spans }
     {
         Spans {
-            first: [Span::Line { start: 0, end: 0 }; 10],
+            first: [Span::Line { start: 0, end: 0 }; MOST_KEPT],
             count: 0,
         }
     }
@@ -40,7 +42,7 @@ impl Spans {
         requires { self.old.count < 2 ^ 63 }
         ensures { self.new ≡ with_span self.old span }
     {
-        if self.count < 10 {
+        if self.count < MOST_KEPT {
             self.first[self.count] = span;
         }
         self.count += 1;

@@ -1,6 +1,5 @@
 use Rattle.tz_expand.proofs.Equality.{compiled_zone_eq, compiled_zone_same}
 use Rattle.std.proofs.Common.{◌≡◌}
-use Rattle.std.specs.Bool.{Decides}
 use Rattle.std.proofs.lemmas.Bool.Decides.{Decides-at}
 use Rattle.tz_expand.proofs.compiled_zone.CompiledZone.same.Goals as goal
 
