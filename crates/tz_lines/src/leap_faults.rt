@@ -3,21 +3,21 @@ ghost use Rattle.std.specs.Prelude.{◌≡◌, ◌++◌, None};
 ghost use Rattle.std.specs.Option.{option_to_list};
 ghost use Rattle.tz_specs.specs.LeapText.{leap_fault_where};
 ghost use Rattle.tz_lines.specs.LeapFaults.{repeats, repeats_after, later_expiries, early_expiries, last_date, is_early};
-ghost use Rattle.tz_rules.specs.Told.{told_with};
+ghost use Rattle.tz_rules.specs.LeastFault.{told_with};
 
 use crate::leap_contents::{WrittenExpiry, WrittenLeap};
-use tz_rules::Told;
+use tz_rules::LeastFault;
 use tz_types::{Cause, LineFault};
 
 /// Tells a fault where the line has it.
-fn tell(told: &mut Told, holds: bool, line: u32, cause: Cause)
+fn tell(told: &mut LeastFault, holds: bool, line: u32, cause: Cause)
     ensures { told.new.least ≡ told_with told.old.least (option_to_list (leap_fault_where holds line cause)) }
 {
     told.tell_where(holds, line, cause);
 }
 
 /// Tells each leap second that has the date of the one before it.
-fn tell_repeats_after(told: &mut Told, first: &WrittenLeap, later: &[WrittenLeap])
+fn tell_repeats_after(told: &mut LeastFault, first: &WrittenLeap, later: &[WrittenLeap])
     ensures { told.new.least ≡ told_with told.old.least (repeats_after first.now later.now) }
 {
     let mut before = first;
@@ -28,7 +28,7 @@ fn tell_repeats_after(told: &mut Told, first: &WrittenLeap, later: &[WrittenLeap
 }
 
 /// Tells each leap second whose date an earlier line gives too, where they stand in the order of their dates and lines.
-fn tell_repeats(told: &mut Told, leaps: &[WrittenLeap])
+fn tell_repeats(told: &mut LeastFault, leaps: &[WrittenLeap])
     ensures { told.new.least ≡ told_with told.old.least (repeats leaps.now) }
 {
     if let [first, later @ ..] = leaps {
@@ -37,7 +37,7 @@ fn tell_repeats(told: &mut Told, leaps: &[WrittenLeap])
 }
 
 /// Tells each expiry but the first.
-fn tell_later_expiries(told: &mut Told, expiries: &[WrittenExpiry])
+fn tell_later_expiries(told: &mut LeastFault, expiries: &[WrittenExpiry])
     ensures { told.new.least ≡ told_with told.old.least (later_expiries expiries.now) }
 {
     if let [_, later @ ..] = expiries {
@@ -68,7 +68,7 @@ fn is_early(last: Option<i64>, moment: i64) -> bool
 }
 
 /// Tells each expiry that isn't after the last leap second.
-fn tell_early_expiries(told: &mut Told, last: Option<i64>, expiries: &[WrittenExpiry])
+fn tell_early_expiries(told: &mut LeastFault, last: Option<i64>, expiries: &[WrittenExpiry])
     ensures { told.new.least ≡ told_with told.old.least (early_expiries last expiries.now) }
 {
     for expiry in expiries {
@@ -86,7 +86,7 @@ fn tell_early_expiries(told: &mut Told, last: Option<i64>, expiries: &[WrittenEx
 pub fn least_leap_fault(leaps: &[WrittenLeap], expiries: &[WrittenExpiry]) -> Option<LineFault>
     ensures { result ≡ told_with None (repeats leaps.now ++ later_expiries expiries.now ++ early_expiries (last_date leaps.now) expiries.now) }
 {
-    let mut told = Told::new();
+    let mut told = LeastFault::new();
     tell_repeats(&mut told, leaps);
     tell_later_expiries(&mut told, expiries);
     tell_early_expiries(&mut told, last_date(leaps), expiries);

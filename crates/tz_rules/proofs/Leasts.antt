@@ -6,7 +6,7 @@ use Rattle.std.proofs.lemmas.List.Elements.{All-cons, All-head, All-tail, All-ni
 use Rattle.tz_types.specs.declared.fault.LineFault.{LineFault}
 use Rattle.tz_specs.specs.Whole.{is_told_before, IsLeast}
 use Rattle.tz_specs.proofs.AscendingLemmas.{first_or_later, is_first, is_later}
-use Rattle.tz_rules.specs.Told.{told_with, IsLeastOf}
+use Rattle.tz_rules.specs.LeastFault.{told_with, IsLeastOf}
 
 before_itself : (fault : LineFault) → IsTrue (is_told_before fault fault)
 before_itself fault = grind (arith, nat_tests)

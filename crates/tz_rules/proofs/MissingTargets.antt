@@ -10,7 +10,7 @@ use Rattle.tz_specs.specs.Written.{written_link}
 use Rattle.tz_specs.specs.Contents.{Contents}
 use Rattle.tz_specs.specs.Whole.{fault_where, zone_of_link, missing_target}
 use Rattle.tz_rules.specs.Reach.{name_at}
-use Rattle.tz_rules.specs.Told.{told_with}
+use Rattle.tz_rules.specs.LeastFault.{told_with}
 
 told_first : (fault : Option LineFault) (faults : List LineFault) (least : Option LineFault) → told_with (told_with least (option_to_list fault)) faults ≡ told_with least (cons_option fault faults)
 told_first None faults least = refl

@@ -4,7 +4,7 @@ use Rattle.std.specs.List.{filter_map}
 use Rattle.std.proofs.lemmas.List.{drop_more}
 use Rattle.std.proofs.lemmas.List.Elements.{filter_map-append}
 use Rattle.tz_types.specs.declared.fault.LineFault.{LineFault}
-use Rattle.tz_rules.specs.Told.{lesser, told_with}
+use Rattle.tz_rules.specs.LeastFault.{lesser, told_with}
 
 pub told-append : (least : Option LineFault) (first second : List LineFault) → told_with least (first ++ second) ≡ told_with (told_with least first) second
 told-append least [] second = refl

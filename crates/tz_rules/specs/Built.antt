@@ -1,12 +1,12 @@
 -- What a database says of the contents that it is built of.
-use Rattle.std.specs.Prelude.{◌≡◌, ℕ, List, [], map, Some, IsTrue}
+use Rattle.std.specs.Prelude.{◌≡◌, ℕ, List, [], map, Option, Some, None, IsTrue}
 use Rattle.std.specs.List.{list_all}
 use Rattle.std.specs.List.Sorted.{IsPermutation}
-use Rattle.tz_types.specs.declared.rule_set.RuleSet.{RuleSet}
+use Rattle.tz_types.specs.declared.fault.LineFault.{LineFault}
 use Rattle.tz_types.specs.declared.database.Db.{Db}
 use Rattle.tz_specs.specs.Written.{set_names, written_set, written_zone, written_link}
 use Rattle.tz_specs.specs.Contents.{Contents}
-use Rattle.tz_specs.specs.Whole.{whole_faults, IsLeast}
+use Rattle.tz_specs.specs.Whole.{whole_faults}
 use Rattle.tz_specs.specs.Sound.{is_known, is_sound}
 use Rattle.tz_specs.specs.Reads.{places_of_links}
 use Rattle.tz_rules.specs.declared.error.BuildError.{BuildError}
@@ -24,7 +24,7 @@ pub record IsBuiltOf (contents : Contents) (version : List ℕ) (db : Db) : Type
   pub known : IsTrue (list_all (λ zone. list_all (λ line. is_known db.sets line.rules) zone.lines) db.zones)
   pub sound : IsTrue (is_sound db)
 
--- Want of memory may come at any time; a fault is the least of those of the contents.
-abbrev pub MeansWholeFault : BuildError → List RuleSet → Contents → Type 0
-MeansWholeFault errors.NoMemory sets contents = Unit {0}
-MeansWholeFault (errors.Fault line cause) sets contents = IsLeast (whole_faults sets contents) (record { line = line; cause = cause })
+-- the fault that an error of building tells, and none for want of memory
+abbrev pub build_fault : BuildError → Option LineFault
+build_fault errors.NoMemory = None
+build_fault (errors.Fault line cause) = Some (record { line = line; cause = cause })

@@ -8,7 +8,7 @@ pub mod Search
 pub mod InEffect
 pub mod NextChange
 pub mod Taken
-pub mod Told
+pub mod LeastFault
 pub mod NamePlace
 pub mod FirstLine
 pub mod Continued

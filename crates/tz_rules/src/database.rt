@@ -1,15 +1,17 @@
 //! The database of a whole text, or its least fault.
 ghost use Rattle.std.specs.Prelude.{IsTrue, IfOk, IfErr};
+ghost use Rattle.tz_types.specs.Reason.{HasReason};
+ghost use Rattle.tz_specs.specs.Whole.{whole_faults, IsLeast};
 ghost use Rattle.tz_rules.specs.Parts.{contents_given};
 ghost use Rattle.tz_rules.specs.LineOrder.{begin_in_order, link_in_order};
-ghost use Rattle.tz_rules.specs.Built.{IsBuiltOf, MeansWholeFault};
+ghost use Rattle.tz_rules.specs.Built.{IsBuiltOf, build_fault};
 
 use crate::BuildError;
-use crate::least_fault::least_fault;
 use crate::parts::Parts;
 use crate::places::set_places;
 use crate::reach::zones_reached;
 use crate::settle::settle;
+use crate::whole_fault::whole_fault;
 use std::alloc::Global;
 use tz_types::{Db, LineFault};
 
@@ -23,11 +25,11 @@ pub fn build(alloc: Global, parts: Parts) -> Result<Db, BuildError>
     requires zones { IsTrue (begin_in_order (contents_given parts)) }
     requires links { IsTrue (link_in_order (contents_given parts)) }
     ensures ok { IfOk result (λ db. IsBuiltOf (contents_given parts) parts.version db) }
-    ensures err { IfErr result (λ e. MeansWholeFault e parts.sets (contents_given parts)) }
+    ensures err { IfErr result (λ e. HasReason (IsLeast (whole_faults parts.sets (contents_given parts))) (build_fault e)) }
 {
     let places = set_places(alloc, parts.sets.as_slice(), parts.names.as_slice())?;
     let reached = zones_reached(alloc, parts.zones.as_slice(), parts.links.as_slice())?;
-    match least_fault(alloc, &parts, &places, &reached)? {
+    match whole_fault(alloc, &parts, &places, &reached)? {
         Some(LineFault { line, cause }) => Err(BuildError::Fault { line, cause }),
         None => Ok(settle(alloc, parts, &places, &reached)?),
     }

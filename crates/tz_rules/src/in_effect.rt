@@ -8,9 +8,9 @@ ghost use Rattle.tz_rules.specs.Mark.{IsLatestYear};
 ghost use Rattle.tz_rules.specs.Placed.{StandsIn};
 ghost use Rattle.tz_rules.specs.InEffect.{IsNearTime, IsAsGoodAs, IsState, IsLastCome, ComesLater, is_settled, follows};
 
-use crate::coming::instant_of;
+use crate::instant::instant_of;
 use crate::mark::{Mark, latest_year};
-use crate::preceding::{last_by, last_of_rule};
+use crate::previous_occurrence::{last_by, last_of_rule};
 use crate::rule_year::RuleYear;
 use crate::years::FIRST_YEAR;
 use std::sync::ledger::Ledger;

@@ -7,11 +7,11 @@ ghost use Rattle.tz_specs.specs.Written.{written_rules, written_line, written_zo
 ghost use Rattle.tz_specs.specs.Whole.{following_in, finish_in, late_lines};
 ghost use Rattle.tz_rules.specs.Continued.{is_named_by};
 ghost use Rattle.tz_rules.specs.SetPlace.{set_place_of};
-ghost use Rattle.tz_rules.specs.Told.{told_with};
+ghost use Rattle.tz_rules.specs.LeastFault.{told_with};
 
 use crate::followed_set::followed_set;
+use crate::least_fault::LeastFault;
 use crate::parts::Parts;
-use crate::telling::Told;
 use crate::until::until_instant;
 use tz_types::{Cause, FIRST_INSTANT, LineRules, Until, ZoneLine};
 
@@ -51,7 +51,12 @@ fn finish(parts: &Parts, places: &[Option<u32>], line: &ZoneLine) -> Option<i64>
 }
 
 /// Tells the lines of a zone that end no later than they start, up to the first whose end isn't known.
-fn tell_late_lines_of(told: &mut Told, parts: &Parts, places: &[Option<u32>], lines: &[ZoneLine])
+fn tell_late_lines_of(
+    told: &mut LeastFault,
+    parts: &Parts,
+    places: &[Option<u32>],
+    lines: &[ZoneLine],
+)
     requires places { places.now ≡ map (set_place_of parts.now.sets) parts.now.names }
     requires named { IsTrue (list_all (λ line. is_named_by (length parts.now.names) line.rules) lines.now) }
     ensures { told.new.least ≡ told_with told.old.least
@@ -68,7 +73,7 @@ fn tell_late_lines_of(told: &mut Told, parts: &Parts, places: &[Option<u32>], li
 }
 
 /// Tells the late lines of each zone.
-pub fn tell_late_lines(told: &mut Told, parts: &Parts, places: &[Option<u32>])
+pub fn tell_late_lines(told: &mut LeastFault, parts: &Parts, places: &[Option<u32>])
     requires places { places.now ≡ map (set_place_of parts.now.sets) parts.now.names }
     ensures { told.new.least ≡ told_with told.old.least
         (flat_map (λ zone. late_lines parts.now.sets first_instant zone.lines) (map (written_zone parts.now.names) parts.now.zones)) }

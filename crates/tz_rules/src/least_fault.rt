@@ -1,38 +1,53 @@
-//! The least fault of a text as a whole.
-ghost use Rattle.std.specs.Prelude.{◌≡◌, map, IfOk};
-ghost use Rattle.tz_specs.specs.Whole.{zone_of_link, whole_faults};
-ghost use Rattle.tz_rules.specs.Parts.{contents_given};
-ghost use Rattle.tz_rules.specs.Reach.{name_at};
-ghost use Rattle.tz_rules.specs.SetPlace.{set_place_of};
-ghost use Rattle.tz_rules.specs.Told.{IsLeastOf};
+//! The least of the faults that are told one after another.
+ghost use Rattle.std.specs.Prelude.{◌≡◌, None};
+ghost use Rattle.std.specs.Option.{option_to_list};
+ghost use Rattle.tz_specs.specs.Causes.{fault_at};
+ghost use Rattle.tz_specs.specs.Whole.{fault_where, is_told_before};
+ghost use Rattle.tz_rules.specs.LeastFault.{lesser, told_with};
 
-use crate::late_line::tell_late_lines;
-use crate::missing_target::tell_missing_targets;
-use crate::parts::Parts;
-use crate::repeated_name::tell_repeated_names;
-use crate::telling::Told;
-use crate::unfinished_zone::tell_unfinished_zones;
-use crate::unknown_set::tell_unknown_sets;
-use std::alloc::Global;
-use tz_types::{LineFault, NoMemory};
+use tz_types::{Cause, LineFault};
 
-/// The fault at the least line, with the least cause there, or none where there are no faults. `places` gives the rule set of
-/// each name, and `reached` the zone of each link.
-pub fn least_fault(
-    alloc: Global,
-    parts: &Parts,
-    places: &[Option<u32>],
-    reached: &[Option<u32>],
-) -> Result<Option<LineFault>, NoMemory>
-    requires places { places.now ≡ map (set_place_of parts.now.sets) parts.now.names }
-    requires reached { map (name_at parts.now.zones) reached.now ≡ map (zone_of_link (contents_given parts.now)) (contents_given parts.now).links }
-    ensures { IfOk result (λ least. IsLeastOf (whole_faults parts.now.sets (contents_given parts.now)) least) }
+/// The fault at the least line so far, with the least cause there.
+#[derive(Clone, Copy, Debug)]
+pub struct LeastFault {
+    pub least: Option<LineFault>,
+}
+
+/// Whether the one stands at an earlier line, or at the same with a cause that isn't greater.
+fn is_told_before(fault: LineFault, other: LineFault) -> bool
+    ensures { result ≡ is_told_before fault other }
 {
-    let mut told = Told::new();
-    tell_unfinished_zones(&mut told, parts);
-    tell_unknown_sets(&mut told, parts, places);
-    tell_repeated_names(&mut told, alloc, parts)?;
-    tell_missing_targets(&mut told, parts, reached);
-    tell_late_lines(&mut told, parts, places);
-    Ok(told.least)
+    fault.line < other.line || (fault.line == other.line && fault.cause <= other.cause)
+}
+
+impl LeastFault {
+    /// Before any fault.
+    pub fn new() -> Self
+        ensures { result.least ≡ None }
+    {
+        LeastFault { least: None }
+    }
+
+    /// Tells a fault.
+    pub fn tell(&mut self, line: u32, cause: Cause)
+        ensures { self.new.least ≡ lesser self.old.least (fault_at line cause) }
+    {
+        let fault = LineFault {
+            line,
+            cause: cause.number(),
+        };
+        self.least = match self.least {
+            Some(least) if is_told_before(least, fault) => Some(least),
+            _ => Some(fault),
+        };
+    }
+
+    /// Tells a fault where the line has it.
+    pub fn tell_where(&mut self, holds: bool, line: u32, cause: Cause)
+        ensures { self.new.least ≡ told_with self.old.least (option_to_list (fault_where holds line cause)) }
+    {
+        if holds {
+            self.tell(line, cause);
+        }
+    }
 }

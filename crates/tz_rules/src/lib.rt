@@ -6,14 +6,13 @@
 //! database of `Parts`, what the lines of a text gave, or else tells the least fault of the text as a whole.
 #![tactic(auto)]
 
-mod coming;
 mod database;
 mod error;
 mod followed_set;
-mod following;
 mod format;
 mod in_effect;
 mod in_force;
+mod instant;
 mod late_line;
 mod least_fault;
 mod letters;
@@ -24,9 +23,10 @@ mod mark;
 mod missing_target;
 mod name_order;
 mod next_change;
+mod next_occurrence;
 mod parts;
 mod places;
-mod preceding;
+mod previous_occurrence;
 mod reach;
 mod repeated_name;
 mod rule_year;
@@ -35,10 +35,10 @@ mod settled_lines;
 mod shift;
 mod stop;
 mod taken;
-mod telling;
 mod unfinished_zone;
 mod unknown_set;
 mod until;
+mod whole_fault;
 #[cfg(test)]
 mod worked_rows;
 mod years;
@@ -47,9 +47,9 @@ pub use database::build;
 pub use error::BuildError;
 pub use format::abbreviation;
 pub use in_force::InForce;
+pub use least_fault::LeastFault;
 pub use letters::letters_before;
 pub use parts::Parts;
 pub use rule_year::occurrence;
 pub use taken::{Taken, last_at_or_before, next_after};
-pub use telling::Told;
 pub use until::until_instant;

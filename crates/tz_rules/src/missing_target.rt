@@ -4,10 +4,10 @@ ghost use Rattle.std.specs.Option.{is_none};
 ghost use Rattle.tz_specs.specs.Whole.{zone_of_link, missing_target};
 ghost use Rattle.tz_rules.specs.Parts.{contents_given};
 ghost use Rattle.tz_rules.specs.Reach.{name_at};
-ghost use Rattle.tz_rules.specs.Told.{told_with};
+ghost use Rattle.tz_rules.specs.LeastFault.{told_with};
 
+use crate::least_fault::LeastFault;
 use crate::parts::Parts;
-use crate::telling::Told;
 use tz_types::{Cause, Zone};
 
 /// Whether no zone is there.
@@ -21,7 +21,7 @@ fn is_missing(zones: &[Zone], place: Option<u32>) -> bool
 }
 
 /// Tells each link that leads to no zone. `reached` gives the place of each link's zone.
-pub fn tell_missing_targets(told: &mut Told, parts: &Parts, reached: &[Option<u32>])
+pub fn tell_missing_targets(told: &mut LeastFault, parts: &Parts, reached: &[Option<u32>])
     requires reached { map (name_at parts.now.zones) reached.now ≡ map (zone_of_link (contents_given parts.now)) (contents_given parts.now).links }
     ensures { told.new.least ≡ told_with told.old.least
         (filter_map (missing_target (contents_given parts.now)) (contents_given parts.now).links) }

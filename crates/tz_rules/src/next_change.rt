@@ -11,10 +11,10 @@ ghost use Rattle.tz_rules.specs.Search.{FirstAfter};
 ghost use Rattle.tz_rules.specs.InEffect.{IsNearTime};
 ghost use Rattle.tz_rules.specs.NextChange.{mark_from, IsWindow, IsSoonest, is_sooner, sooner_of, IsFirstToCome, IsNextAfter};
 
-use crate::coming::{instant_of, save_by};
-use crate::following::{first_after_mark, first_of_rule};
 use crate::in_effect::{BEFORE_ALL, MOST_SHIFT, in_effect};
+use crate::instant::{instant_of, save_by};
 use crate::mark::{Mark, earliest_year, latest_year};
+use crate::next_occurrence::{first_after_mark, first_of_rule};
 use crate::rule_year::RuleYear;
 use std::sync::ledger::Ledger;
 use tz_types::{RuleSet, Steps};

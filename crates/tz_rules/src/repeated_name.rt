@@ -5,11 +5,11 @@ ghost use Rattle.tz_specs.specs.Written.{written_zone, written_link};
 ghost use Rattle.tz_specs.specs.Whole.{zone_name, names_given, repeated_name};
 ghost use Rattle.tz_rules.specs.NameMap.{known_of};
 ghost use Rattle.tz_rules.specs.Parts.{contents_given};
-ghost use Rattle.tz_rules.specs.Told.{told_with};
+ghost use Rattle.tz_rules.specs.LeastFault.{told_with};
 ghost use Rattle.tz_rules.specs.FirstLine.{first_line, lesser_line, later_name};
 
+use crate::least_fault::LeastFault;
 use crate::parts::Parts;
-use crate::telling::Told;
 use std::alloc::Global;
 use std::collections::HashMap;
 use tz_types::{Cause, NoMemory};
@@ -70,7 +70,7 @@ fn first_lines<'a>(alloc: Global, parts: &'a Parts) -> Result<HashMap<&'a [u8], 
 }
 
 /// Tells the line, where a lesser one gives the name.
-fn tell_later(told: &mut Told, lines: &HashMap<&[u8], u32>, name: &[u8], line: u32)
+fn tell_later(told: &mut LeastFault, lines: &HashMap<&[u8], u32>, name: &[u8], line: u32)
     ensures { told.new.least ≡ told_with told.old.least (option_to_list (later_name (known_of lines.now) (name.now, line))) }
 {
     if let Some(least) = lines.get(name) {
@@ -78,7 +78,7 @@ fn tell_later(told: &mut Told, lines: &HashMap<&[u8], u32>, name: &[u8], line: u
     }
 }
 
-fn tell_later_zones(told: &mut Told, lines: &HashMap<&[u8], u32>, parts: &Parts)
+fn tell_later_zones(told: &mut LeastFault, lines: &HashMap<&[u8], u32>, parts: &Parts)
     ensures { told.new.least ≡ told_with told.old.least
         (filter_map (later_name (known_of lines.now)) (filter_map zone_name (map (written_zone parts.now.names) parts.now.zones))) }
 {
@@ -89,7 +89,7 @@ fn tell_later_zones(told: &mut Told, lines: &HashMap<&[u8], u32>, parts: &Parts)
     }
 }
 
-fn tell_later_links(told: &mut Told, lines: &HashMap<&[u8], u32>, parts: &Parts)
+fn tell_later_links(told: &mut LeastFault, lines: &HashMap<&[u8], u32>, parts: &Parts)
     ensures { told.new.least ≡ told_with told.old.least
         (filter_map (later_name (known_of lines.now)) (map (λ link. (link.name, link.line)) (map written_link parts.now.links))) }
 {
@@ -99,7 +99,11 @@ fn tell_later_links(told: &mut Told, lines: &HashMap<&[u8], u32>, parts: &Parts)
 }
 
 /// Tells each line whose name an earlier one gives too, to a zone or a link.
-pub fn tell_repeated_names(told: &mut Told, alloc: Global, parts: &Parts) -> Result<(), NoMemory>
+pub fn tell_repeated_names(
+    told: &mut LeastFault,
+    alloc: Global,
+    parts: &Parts,
+) -> Result<(), NoMemory>
     ensures { OnOk result (told.new.least ≡ told_with told.old.least
         (filter_map (repeated_name (names_given (contents_given parts.now))) (names_given (contents_given parts.now)))) }
 {

@@ -7,8 +7,8 @@ ghost use Rattle.tz_specs.specs.Around.{IsToCome, IsNextChange};
 ghost use Rattle.tz_rules.specs.Placed.{StandsIn};
 ghost use Rattle.tz_rules.specs.Taken.{IsTakenOccurrence, IsTakenAt, IsLastTaken, IsNextTaken};
 
-use crate::coming::instant_of;
 use crate::in_effect::{in_effect, near_time};
+use crate::instant::instant_of;
 use crate::next_change::next_change;
 use crate::rule_year::RuleYear;
 use std::sync::ledger::Ledger;

@@ -3,13 +3,13 @@ ghost use Rattle.std.specs.Prelude.{◌≡◌, map, filter_map};
 ghost use Rattle.std.specs.Option.{option_to_list};
 ghost use Rattle.tz_specs.specs.Written.{written_zone};
 ghost use Rattle.tz_specs.specs.Whole.{missing_continuation};
-ghost use Rattle.tz_rules.specs.Told.{told_with};
+ghost use Rattle.tz_rules.specs.LeastFault.{told_with};
 
+use crate::least_fault::LeastFault;
 use crate::parts::Parts;
-use crate::telling::Told;
 use tz_types::{Cause, Zone};
 
-fn tell_unfinished_zone(told: &mut Told, parts: &Parts, zone: &Zone)
+fn tell_unfinished_zone(told: &mut LeastFault, parts: &Parts, zone: &Zone)
     ensures { told.new.least ≡ told_with told.old.least (option_to_list (missing_continuation (written_zone parts.now.names zone.now))) }
 {
     if let Some(line) = zone.lines.as_slice().last() {
@@ -18,7 +18,7 @@ fn tell_unfinished_zone(told: &mut Told, parts: &Parts, zone: &Zone)
 }
 
 /// Tells the last line of each zone, where it has an UNTIL.
-pub fn tell_unfinished_zones(told: &mut Told, parts: &Parts)
+pub fn tell_unfinished_zones(told: &mut LeastFault, parts: &Parts)
     ensures { told.new.least ≡ told_with told.old.least (filter_map missing_continuation (map (written_zone parts.now.names) parts.now.zones)) }
 {
     for zone in parts.zones.as_slice() {

@@ -6,11 +6,11 @@ ghost use Rattle.tz_specs.specs.Written.{written_rules, written_line, written_zo
 ghost use Rattle.tz_specs.specs.Whole.{following_in, unknown_rule};
 ghost use Rattle.tz_rules.specs.Continued.{is_named_by};
 ghost use Rattle.tz_rules.specs.SetPlace.{set_place_of};
-ghost use Rattle.tz_rules.specs.Told.{told_with};
+ghost use Rattle.tz_rules.specs.LeastFault.{told_with};
 
 use crate::followed_set::followed_set;
+use crate::least_fault::LeastFault;
 use crate::parts::Parts;
-use crate::telling::Told;
 use tz_types::{Cause, LineRules, ZoneLine};
 
 /// Whether no rule has the name of the set that is followed.
@@ -25,7 +25,12 @@ fn follows_unknown(parts: &Parts, places: &[Option<u32>], rules: LineRules) -> b
     }
 }
 
-fn tell_unknown_lines(told: &mut Told, parts: &Parts, places: &[Option<u32>], lines: &[ZoneLine])
+fn tell_unknown_lines(
+    told: &mut LeastFault,
+    parts: &Parts,
+    places: &[Option<u32>],
+    lines: &[ZoneLine],
+)
     requires places { places.now ≡ map (set_place_of parts.now.sets) parts.now.names }
     requires named { IsTrue (list_all (λ line. is_named_by (length parts.now.names) line.rules) lines.now) }
     ensures { told.new.least ≡ told_with told.old.least
@@ -41,7 +46,7 @@ fn tell_unknown_lines(told: &mut Told, parts: &Parts, places: &[Option<u32>], li
 }
 
 /// Tells each line whose rule set has no rule.
-pub fn tell_unknown_sets(told: &mut Told, parts: &Parts, places: &[Option<u32>])
+pub fn tell_unknown_sets(told: &mut LeastFault, parts: &Parts, places: &[Option<u32>])
     requires places { places.now ≡ map (set_place_of parts.now.sets) parts.now.names }
     ensures { told.new.least ≡ told_with told.old.least
         (flat_map (λ zone. filter_map (unknown_rule parts.now.sets) zone.lines) (map (written_zone parts.now.names) parts.now.zones)) }

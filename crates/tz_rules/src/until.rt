@@ -11,9 +11,9 @@ ghost use Rattle.tz_rules.specs.Following.{following_given};
 ghost use Rattle.tz_rules.specs.Mark.{IsInReach};
 ghost use Rattle.tz_rules.specs.Passed.{Passed, NoneBy, PassesFirst, PassesNext};
 
-use crate::following::{first_after, first_after_mark};
 use crate::mark::Mark;
-use crate::preceding::last_by;
+use crate::next_occurrence::{first_after, first_after_mark};
+use crate::previous_occurrence::last_by;
 use crate::rule_year::RuleYear;
 use crate::shift::shift_of;
 use std::marker::Brand;

@@ -1,7 +1,7 @@
 use Rattle.tz_rules.proofs.database.build.Goals as goal
 
-pub least_fault-requires-clause-reached : goal.least_fault-requires-clause-reached
-least_fault-requires-clause-reached c =
+pub whole_fault-requires-clause-reached : goal.whole_fault-requires-clause-reached
+whole_fault-requires-clause-reached c =
     rw c.deref-2.ensures.value (rw (c.as_slice-3.ensures, c.as_slice-4.ensures) at (c.in_ok-reached.ensures c.args.parts.names))
 
 pub settle-requires-clause-reached : goal.settle-requires-clause-reached

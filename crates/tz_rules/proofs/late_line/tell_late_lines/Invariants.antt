@@ -3,7 +3,7 @@ use Rattle.std.specs.List.{flat_map}
 use Rattle.tz_specs.specs.Expansion.{first_instant}
 use Rattle.tz_specs.specs.Written.{written_zone}
 use Rattle.tz_specs.specs.Whole.{late_lines}
-use Rattle.tz_rules.specs.Told.{told_with}
+use Rattle.tz_rules.specs.LeastFault.{told_with}
 use Rattle.tz_rules.proofs.late_line.tell_late_lines.Given as goal
 
 -- the least, when the late lines of the zones that are left are told too

@@ -2,7 +2,7 @@ use Rattle.std.proofs.Common.{◌≡◌, map, drop}
 use Rattle.tz_specs.specs.Expansion.{first_instant}
 use Rattle.tz_specs.specs.Written.{written_line}
 use Rattle.tz_specs.specs.Whole.{late_lines}
-use Rattle.tz_rules.specs.Told.{told_with}
+use Rattle.tz_rules.specs.LeastFault.{told_with}
 use Rattle.tz_rules.proofs.late_line.tell_late_lines_of.Given as goal
 
 -- the least, when the lines that are left and end too soon are told too

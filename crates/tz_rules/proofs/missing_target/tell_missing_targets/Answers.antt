@@ -6,7 +6,7 @@ use Rattle.tz_specs.specs.Written.{written_link}
 use Rattle.tz_specs.specs.Whole.{fault_where, zone_of_link, missing_target}
 use Rattle.tz_rules.specs.Parts.{contents_given}
 use Rattle.tz_rules.specs.Reach.{name_at}
-use Rattle.tz_rules.specs.Told.{told_with}
+use Rattle.tz_rules.specs.LeastFault.{told_with}
 use Rattle.tz_rules.proofs.MissingTargets.{told_link, later_places, told_all}
 use Rattle.tz_rules.proofs.missing_target.tell_missing_targets.Goals as goal
 

@@ -2,7 +2,7 @@ use Rattle.std.proofs.Common.{◌≡◌, map, drop}
 use Rattle.tz_rules.specs.NameMap.{known_of}
 use Rattle.std.specs.List.{filter_map}
 use Rattle.tz_specs.specs.Written.{written_link}
-use Rattle.tz_rules.specs.Told.{told_with}
+use Rattle.tz_rules.specs.LeastFault.{told_with}
 use Rattle.tz_rules.specs.FirstLine.{later_name}
 use Rattle.tz_rules.proofs.repeated_name.tell_later_links.Given as goal
 

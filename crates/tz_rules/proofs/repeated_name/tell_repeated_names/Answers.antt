@@ -5,7 +5,7 @@ use Rattle.tz_specs.specs.Written.{written_link}
 use Rattle.tz_specs.specs.Whole.{zone_name, names_given}
 use Rattle.tz_rules.specs.Parts.{contents_given}
 use Rattle.tz_specs.specs.Written.{written_zone}
-use Rattle.tz_rules.specs.Told.{told_with}
+use Rattle.tz_rules.specs.LeastFault.{told_with}
 use Rattle.tz_rules.specs.FirstLine.{later_name}
 use Rattle.tz_rules.proofs.FirstLines.{same_repeats}
 use Rattle.tz_rules.proofs.ToldLists.{told_in_turn}

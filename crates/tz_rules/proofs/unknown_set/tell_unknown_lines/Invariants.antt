@@ -2,7 +2,7 @@ use Rattle.std.proofs.Common.{◌≡◌, map, drop}
 use Rattle.std.specs.List.{filter_map}
 use Rattle.tz_specs.specs.Written.{written_line}
 use Rattle.tz_specs.specs.Whole.{unknown_rule}
-use Rattle.tz_rules.specs.Told.{told_with}
+use Rattle.tz_rules.specs.LeastFault.{told_with}
 use Rattle.tz_rules.proofs.unknown_set.tell_unknown_lines.Given as goal
 
 -- the least, when the faults of the lines that are left are told too

@@ -1,6 +1,0 @@
-use Rattle.tz_rules.proofs.BeforeMark.{previous_of_mark}
-use Rattle.tz_rules.proofs.preceding.last_before.Goals as goal
-
-pub returns-clause-last : goal.returns-clause-last
-returns-clause-last g c =
-    previous_of_mark c.args.set.now c.args.occurrence.now.occurrence c.mark.result c.last_before_mark.result c.mark.ensures.value c.last_before_mark.ensures.last
