@@ -1,5 +1,6 @@
 -- What lines give, one after another.
 use Rattle.std.proofs.Common.{◌≡◌, ℕ, ◌+◌, nat_lt, Bool, true, false, ◌||◌, List, [], ◌∷◌, length, Option, Some, None, Result, Ok, Err, refl, ap, ◌∙◌}
+use Rattle.tz_types.specs.declared.limit.TheConstants.{MOST_TEXT_LINES}
 use Rattle.tz_types.specs.declared.cause.Cause.{Cause}
 use Rattle.tz_types.specs.declared.fault.LineFault.{LineFault}
 use Rattle.tz_types.specs.declared.cause.Cause.TheVariants as causes
@@ -44,20 +45,20 @@ one_count false true h = refl
 one_count false false h = cc
 
 -- what is said is given, unless it is one too many
-pub after_said : (before : Contents) (waiting : Bool) (number : ℕ) (line : List ℕ) (lines : List (List ℕ)) (said : Option Record) → waits before ≡ waiting → SaysAlone waiting number line said → (exceeds_said before said || nat_lt 100_000 number) ≡ false → contents_after before number (line ∷ lines) ≡ contents_after (with_said said before) (number + 1) lines
+pub after_said : (before : Contents) (waiting : Bool) (number : ℕ) (line : List ℕ) (lines : List (List ℕ)) (said : Option Record) → waits before ≡ waiting → SaysAlone waiting number line said → (exceeds_said before said || nat_lt MOST_TEXT_LINES number) ≡ false → contents_after before number (line ∷ lines) ≡ contents_after (with_said said before) (number + 1) lines
 after_said before waiting number line lines said same says fits =
     let is = says_line before waiting number line said same says in
-    let none = no_count (exceeds_said before said) (nat_lt 100_000 number) fits in
+    let none = no_count (exceeds_said before said) (nat_lt MOST_TEXT_LINES number) fits in
     after_line before number line lines ∙ ap (given_by before number lines) (is ∙ ap (λ (it : Option Cause). unless_cause it said) none)
 
 -- a line that has a cause
 fault_comes : (before : Contents) (number : ℕ) (line : List ℕ) (lines : List (List ℕ)) (cause : Cause) → line_says before number line ≡ Err cause → MeansLineFault (errors.Fault (fault_at number cause)) (contents_after before number (line ∷ lines))
 fault_comes before number line lines cause e = after_line before number line lines ∙ ap (given_by before number lines) e
 
-pub limit_comes : (before : Contents) (waiting : Bool) (number : ℕ) (line : List ℕ) (lines : List (List ℕ)) (said : Option Record) → waits before ≡ waiting → SaysAlone waiting number line said → (exceeds_said before said || nat_lt 100_000 number) ≡ true → MeansLineFault (errors.Fault (fault_at number causes.Limit)) (contents_after before number (line ∷ lines))
+pub limit_comes : (before : Contents) (waiting : Bool) (number : ℕ) (line : List ℕ) (lines : List (List ℕ)) (said : Option Record) → waits before ≡ waiting → SaysAlone waiting number line said → (exceeds_said before said || nat_lt MOST_TEXT_LINES number) ≡ true → MeansLineFault (errors.Fault (fault_at number causes.Limit)) (contents_after before number (line ∷ lines))
 limit_comes before waiting number line lines said same says exceeded =
     let is = says_line before waiting number line said same says in
-    let one = one_count (exceeds_said before said) (nat_lt 100_000 number) exceeded in
+    let one = one_count (exceeds_said before said) (nat_lt MOST_TEXT_LINES number) exceeded in
     fault_comes before number line lines causes.Limit (is ∙ ap (λ (it : Option Cause). unless_cause it said) one)
 
 refuses_line : (before : Contents) (waiting : Bool) (number : ℕ) (line : List ℕ) (cause : Cause) → waits before ≡ waiting → RefusesAlone waiting line cause → line_says before number line ≡ Err cause

@@ -6,6 +6,7 @@ use Rattle.std.specs.List.{list_all, list_any, slice_get}
 use Rattle.std.proofs.lemmas.Bool.Decides.{nat_tests}
 use Rattle.std.proofs.lemmas.Option.{same_Some}
 use Rattle.tz_types.specs.Order.{name_before}
+use Rattle.tz_types.specs.declared.limit.TheConstants.{MOST_TEXT_LINES, LONGEST_LINE}
 use Rattle.tz_types.specs.declared.calendar.Month.{Month}
 use Rattle.tz_types.specs.declared.calendar.On.{On}
 use Rattle.tz_types.specs.declared.moment.AtKind.{AtKind}
@@ -253,9 +254,9 @@ unfolding line_says
 follows contents number line said e h =
     let fields = fields_or_none (fields_of line) in
     let told = by_cause (least_cause (causes_of_line contents number line)) (record_of_fields contents number fields) said e in
-    let late = (causes.Limit, nat_lt 100_000 number) ∷ [] in
+    let late = (causes.Limit, nat_lt MOST_TEXT_LINES number) ∷ [] in
     let open_quote = (causes.OpenQuote, is_none (fields_of line)) ∷ (field_causes contents fields ++ late) in
-    let none = rows_false (causes.OpenQuote, is_none (fields_of line)) (field_causes contents fields ++ late) (rows_false (causes.Nul, list_any (λ byte. byte == 0) line) open_quote (rows_false (causes.LongLine, nat_lt 2_048 (line_length line)) ((causes.Nul, list_any (λ byte. byte == 0) line) ∷ open_quote) told.0)) in
+    let none = rows_false (causes.OpenQuote, is_none (fields_of line)) (field_causes contents fields ++ late) (rows_false (causes.Nul, list_any (λ byte. byte == 0) line) open_quote (rows_false (causes.LongLine, nat_lt LONGEST_LINE (line_length line)) ((causes.Nul, list_any (λ byte. byte == 0) line) ∷ open_quote) told.0)) in
     let is = placed contents number fields said told.1 h in
     let fits = room contents number fields said (front_false (field_causes contents fields) late none) told.1 in
     record {

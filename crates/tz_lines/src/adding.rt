@@ -1,5 +1,6 @@
 //! What the lines of a text have given so far, with one more record.
 ghost use Rattle.std.specs.Prelude.{◌≡◌, ◌+◌, ◌<◌, ◌≤◌, ◌^◌, ◌||◌, false, nat_lt, length, option_map, IsTrue, IfSome, IfOk, OnOk};
+ghost use Rattle.tz_types.specs.declared.limit.TheConstants.{MOST_TEXT_LINES};
 ghost use Rattle.tz_specs.specs.Written.{written_rule, written_line, RuleRecord, ZoneRecord, Continuation, LinkRecord};
 ghost use Rattle.tz_specs.specs.Contents.{no_contents, at_end_of_file, with_record, with_said};
 ghost use Rattle.tz_records.specs.Entry.{written_entry, written_entry_line};
@@ -18,7 +19,7 @@ use crate::zone_line::zone_line;
 use std::alloc::Global;
 use std::mem;
 use tz_records::{Entry, EntryLine, GivenName};
-use tz_types::{Items, Link, NoMemory, Rule, ZoneLine};
+use tz_types::{Items, Link, MOST_TEXT_LINES, NoMemory, Rule, ZoneLine};
 
 impl Gathered {
     /// Before any line.
@@ -80,7 +81,7 @@ impl Gathered {
         Ok(())
     }
 
-    fn continue_zone(&mut self, alloc: Global, entry: EntryLine<'_>) -> Result<(), AddError>
+    fn continue_zone(&mut self, entry: EntryLine<'_>) -> Result<(), AddError>
         requires room { length self.old.names.labels.items < 2 ^ 32 }
         requires waits { IsTrue (is_in_place (contents_gathered self.old) (Continuation (written_entry_line entry))) }
         ensures limit { MeansLimit result (exceeds (contents_gathered self.old) (Continuation (written_entry_line entry.entry))) }
@@ -91,9 +92,7 @@ impl Gathered {
             return Err(AddError::Limit);
         }
         let line = self.zone_line(entry)?;
-        let mut zones = mem::replace(&mut self.zones, Items::new(alloc)).into_vec();
-        continue_last(&mut zones, line)?;
-        self.zones = Items::from_vec(zones);
+        continue_last(&mut self.zones, line)?;
         Ok(())
     }
 
@@ -140,7 +139,7 @@ impl Gathered {
         match entry {
             Entry::Rule { name, rule } => self.add_rule(alloc, name, rule),
             Entry::Zone { name, line } => self.begin_zone(alloc, name, line),
-            Entry::Continuation(line) => self.continue_zone(alloc, line),
+            Entry::Continuation(line) => self.continue_zone(line),
             Entry::Link { target, name, line } => self.add_link(target, name, line),
         }
     }
@@ -155,11 +154,11 @@ impl Gathered {
     ) -> Result<(), AddError>
         requires room { length self.old.names.labels.items < 2 ^ 32 }
         requires in_place { IfSome said (λ entry. IsTrue (is_in_place (contents_gathered self.old) (written_entry entry))) }
-        ensures limit { MeansLimit result (exceeds_said (contents_gathered self.old) (option_map written_entry said.entry) || nat_lt 100_000 number) }
+        ensures limit { MeansLimit result (exceeds_said (contents_gathered self.old) (option_map written_entry said.entry) || nat_lt MOST_TEXT_LINES number) }
         ensures contents { OnOk result (contents_gathered self.new ≡ with_said (option_map written_entry said.entry) (contents_gathered self.old)) }
         ensures names { length self.new.names.labels.items ≤ length self.old.names.labels.items + 1 }
     {
-        if number > 100_000 {
+        if number > MOST_TEXT_LINES {
             return Err(AddError::Limit);
         }
         match said {

@@ -61,7 +61,7 @@ fn take_lines(
 ) -> Result<u32, LineError>
     requires before { IsTrue (are_before number (contents_gathered gathered.old).sets) }
     requires names { length gathered.old.names.labels.items < number }
-    requires few { number + length text.now ≤ 4_194_305 }
+    requires few { number + length text.now ≤ MOST_BYTES + 1 }
     ensures ok { OnOk result (contents_after (contents_gathered gathered.old) number (lines_of text.now) ≡ Ok (contents_gathered gathered.new)) }
     ensures next { IfOk result (λ next. next ≡ number + length (lines_of text.now)) }
     ensures within { IfOk result (λ next. next ≤ number + length text.now) }
@@ -91,7 +91,7 @@ fn take_file(
 ) -> Result<u32, LineError>
     requires before { IsTrue (are_before number (contents_gathered gathered.old).sets) }
     requires names { length gathered.old.names.labels.items < number }
-    requires few { number + length text.now ≤ 4_194_305 }
+    requires few { number + length text.now ≤ MOST_BYTES + 1 }
     ensures ok { IfOk result (λ next. (files : List (List ℕ)) →
         contents_over (contents_gathered gathered.old) number (text.now ∷ files)
         ≡ contents_over (contents_gathered gathered.new) next files) }

@@ -1,7 +1,7 @@
 //! The zone that was begun last.
-ghost use Rattle.std.specs.Prelude.{◌≡◌, ◌∷◌, [], IfOk, OnOk};
+ghost use Rattle.std.specs.Prelude.{◌≡◌, ◌∷◌, [], IfOk, OnOk, OnErr};
 ghost use Rattle.tz_types.specs.declared.zone.Zone.{Zone as DeclaredZone};
-ghost use Rattle.tz_lines.specs.LastZone.{with_zone_line};
+ghost use Rattle.tz_lines.specs.LastZone.{zone_names, zone_lines, with_last_line, HasRoom};
 
 use std::alloc::Global;
 use tz_records::GivenName;
@@ -21,8 +21,11 @@ pub fn zone_of(alloc: Global, name: GivenName<'_>, line: ZoneLine) -> Result<Zon
 }
 
 /// Adds a line to the last zone.
-pub fn continue_last(zones: &mut Vec<Zone>, line: ZoneLine) -> Result<(), NoMemory>
-    ensures { OnOk result (zones.new.items ≡ with_zone_line line zones.old.items) }
+pub fn continue_last(zones: &mut Items<Zone>, line: ZoneLine) -> Result<(), NoMemory>
+    requires { HasRoom zones.old }
+    ensures names { zone_names zones.new ≡ zone_names zones.old }
+    ensures ok { OnOk result (zone_lines zones.new ≡ with_last_line line (zone_lines zones.old)) }
+    ensures err { OnErr result (zone_lines zones.new ≡ zone_lines zones.old) }
 {
     match zones.last_mut() {
         Some(zone) => zone.lines.push(line),

@@ -1,6 +1,7 @@
 //! Leap texts to leap tables, after zic(8), "Leap lines".
 ghost use Rattle.std.specs.Prelude.{◌≡◌, ℕ, ◌+◌, ◌≤◌, ◌∷◌, Ok, List, map, length, IfOk, IfErr, OnOk};
 ghost use Rattle.std.specs.List.Sorted.{IsPermutation, IsSorted};
+ghost use Rattle.tz_types.specs.declared.limit.TheConstants.{MOST_BYTES};
 ghost use Rattle.tz_specs.specs.LeapText.{leap_fault, first_moment, leap_contents_after, leap_contents_of, ReadsLeaps};
 ghost use Rattle.tz_lines.specs.LeapContents.{contents_meant, expiry_meant, entry_meant, leap_cmp, AreGiven, IsTableOf, MeansLeapLineFault, MeansWholeLeapFault};
 ghost use Rattle.tz_lines.specs.LeapRefusal.{MeansLeapFault, MeansRefusal};
@@ -39,7 +40,7 @@ fn take_line(
 
 /// What all lines of a leap text give.
 fn take_lines(alloc: Global, text: &[u8]) -> Result<LeapContents, LineError>
-    requires { length text.now ≤ 4_194_304 }
+    requires { length text.now ≤ MOST_BYTES }
     ensures ok { IfOk result (λ contents. leap_contents_of text.now ≡ Ok (contents_meant contents)) }
     ensures err { IfErr result (λ e. MeansLeapLineFault e (leap_contents_of text.now)) }
 {
@@ -107,7 +108,7 @@ fn table(alloc: Global, contents: LeapContents) -> Result<Leaps, LineError>
 
 /// The leap table of a leap text, or its fault.
 fn leaps_of(alloc: Global, text: &[u8]) -> Result<Leaps, LineError>
-    requires { length text.now ≤ 4_194_304 }
+    requires { length text.now ≤ MOST_BYTES }
     ensures ok { IfOk result (λ leaps. ReadsLeaps text.now leaps) }
     ensures refused { IfErr result (λ e. MeansLeapFault e text.now) }
 {
@@ -136,7 +137,7 @@ fn leaps_of(alloc: Global, text: &[u8]) -> Result<Leaps, LineError>
 /// earlier leap second has the date, 25 an earlier line says when the table expires, 26 it expires no later than a leap
 /// second.
 pub fn read_leaps(alloc: Global, text: &[u8]) -> Result<Leaps, ReadError>
-    requires { length text.now ≤ 4_194_304 }
+    requires { length text.now ≤ MOST_BYTES }
     ensures ok { IfOk result (λ leaps. ReadsLeaps text.now leaps) }
     ensures refused { IfErr result (λ e. MeansRefusal e text.now) }
 {

@@ -4,6 +4,7 @@ ghost use Rattle.tz_specs.specs.Contents.{last_lines, wants_line, waits, exceeds
 ghost use Rattle.tz_lines.specs.Gathered.{contents_gathered};
 
 use crate::contents::Gathered;
+use tz_types::{MOST_LINKS, MOST_ZONE_LINES, MOST_ZONES};
 
 impl Gathered {
     /// Whether the last line of the zone that was begun last has an UNTIL.
@@ -30,7 +31,7 @@ impl Gathered {
     pub fn exceeds_zones(&self) -> bool
         ensures { result ≡ exceeds_zones (contents_gathered self.now) }
     {
-        self.zones.len() >= 1_024
+        self.zones.len() >= MOST_ZONES
     }
 
     /// Whether a line would be one too many of its zone.
@@ -39,7 +40,7 @@ impl Gathered {
     {
         match self.zones.as_slice().last() {
             None => false,
-            Some(zone) => zone.lines.len() >= 255,
+            Some(zone) => zone.lines.len() >= MOST_ZONE_LINES,
         }
     }
 
@@ -47,6 +48,6 @@ impl Gathered {
     pub fn exceeds_links(&self) -> bool
         ensures { result ≡ exceeds_links (contents_gathered self.now) }
     {
-        self.links.len() >= 4_096
+        self.links.len() >= MOST_LINKS
     }
 }

@@ -1,6 +1,6 @@
 //! In which file of a source a line stands, where the lines of all files are counted through.
 ghost use Rattle.std.specs.Prelude.{◌≡◌, ◌≤◌, length};
-ghost use Rattle.tz_types.specs.declared.limit.TheConstants.{MOST_BYTES};
+ghost use Rattle.tz_types.specs.declared.limit.TheConstants.{MOST_BYTES, MOST_FILES};
 ghost use Rattle.tz_types.specs.Source.{bytes_together};
 ghost use Rattle.tz_specs.specs.Line.{lines_of};
 ghost use Rattle.tz_specs.specs.Reads.{line_in, place_in};
@@ -25,7 +25,7 @@ fn line_count(text: &[u8]) -> u32
 
 /// The number of the file that has a line, and the line's number in it, where the files are numbered from 1.
 fn line_in(files: &[Text], line: u32) -> (u32, u32)
-    requires few_files { length files.now ≤ 16 }
+    requires few_files { length files.now ≤ MOST_FILES }
     requires few_bytes { bytes_together files.now ≤ MOST_BYTES }
     ensures { result ≡ line_in 1 files.now line }
 {
@@ -44,7 +44,7 @@ fn line_in(files: &[Text], line: u32) -> (u32, u32)
 
 /// The same where one file alone has the number 0.
 pub fn place_in(files: &[Text], line: u32) -> (u32, u32)
-    requires few_files { length files.now ≤ 16 }
+    requires few_files { length files.now ≤ MOST_FILES }
     requires few_bytes { bytes_together files.now ≤ MOST_BYTES }
     ensures { result ≡ place_in files.now line }
 {

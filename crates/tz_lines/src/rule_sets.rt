@@ -15,7 +15,7 @@ ghost use Rattle.tz_lines.specs.AddingOutcome.{MeansLimit};
 use crate::error::AddError;
 use std::alloc::Global;
 use tz_records::GivenName;
-use tz_types::{Items, NoMemory, Rule, RuleSet};
+use tz_types::{Items, MOST_RULES, MOST_SETS, NoMemory, Rule, RuleSet};
 
 /// Whether the set at a place has that name.
 fn stands_at(sets: &[RuleSet], place: usize, name: &[u8]) -> bool
@@ -57,7 +57,7 @@ fn push_rule(set: &mut RuleSet, rule: Rule) -> Result<(), AddError>
     ensures name { set.new.name ≡ set.old.name }
     ensures limit { MeansLimit result (nat_le MOST_RULES (length set.old.rules)) }
 {
-    if set.rules.len() >= 512 {
+    if set.rules.len() >= MOST_RULES {
         return Err(AddError::Limit);
     }
     set.rules.push(rule)?;
@@ -109,7 +109,7 @@ pub fn add_rule(
             push_rule(&mut sets[place], rule)
         }
         Err(place) => {
-            if sets.len() >= 1_024 {
+            if sets.len() >= MOST_SETS {
                 return Err(AddError::Limit);
             }
             *likely = place;

@@ -20,7 +20,7 @@ loop-text-init c =
     }
 
 -- one more file has few enough bytes
-few_more : (texts : List (List ℕ)) (place number : ℕ) (text : List ℕ) → place < length texts → text ≡ get_or texts place text → number ≤ 1 + sum_by length (take place texts) → bytes_together texts ≤ MOST_BYTES → number + length text ≤ 4_194_305
+few_more : (texts : List (List ℕ)) (place number : ℕ) (text : List ℕ) → place < length texts → text ≡ get_or texts place text → number ≤ 1 + sum_by length (take place texts) → bytes_together texts ≤ MOST_BYTES → number + length text ≤ MOST_BYTES + 1
 few_more texts place number text within is before few =
     let next = sum_by_more length texts place text within in
     let count : length text ≡ length (get_or texts place text) = ap length is in

@@ -1,4 +1,5 @@
 use Rattle.std.proofs.Common.{◌≡◌, ◌+◌, true, ◌||◌, nat_lt, option_map, sym, ap, ◌∙◌}
+use Rattle.tz_types.specs.declared.limit.TheConstants.{MOST_TEXT_LINES}
 use Rattle.tz_specs.specs.Contents.{Contents, contents_after}
 use Rattle.tz_records.specs.Entry.{written_entry}
 use Rattle.tz_records.specs.Counts.{exceeds_said}
@@ -29,5 +30,5 @@ pub returns-in-Err-Limit-clause-err : goal.returns-in-Err-Limit-clause-err
 returns-in-Err-Limit-clause-err c =
     let before = contents_gathered c.args.gathered.now in
     let said = option_map written_entry c.in-Ok.said in
-    let exceeded : (exceeds_said before said || nat_lt 100_000 c.args.number) ≡ true = rw c.in-Err-Limit.field-0-is at c.in-Err-Limit.ensures.limit in
+    let exceeded : (exceeds_said before said || nat_lt MOST_TEXT_LINES c.args.number) ≡ true = rw c.in-Err-Limit.field-0-is at c.in-Err-Limit.ensures.limit in
     λ lines. rw c.at-in-Err-Limit.ensures (limit_comes before c.waits.result c.args.number c.args.line.now lines said (sym c.waits.ensures) c.in-Ok.ensures.ok exceeded)

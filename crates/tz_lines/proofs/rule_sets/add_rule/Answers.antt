@@ -58,8 +58,8 @@ returns-in-Ok-clause-limit c =
     let within : c.in-Ok.place < length sets = rw c.as_slice.ensures.value at c.in-Ok.ensures.bound in
     subst (MeansLimit c.push_rule.result) (full_known sets c.args.name.bytes.now c.in-Ok.place set (sym place) within c.index_mut.ensures.value) c.push_rule.ensures.limit
 
-pub returns-then-len-ge1024-clause-limit : goal.returns-then-len-ge1024-clause-limit
-returns-then-len-ge1024-clause-limit c =
+pub returns-then-len-ge-MOST_SETS-clause-limit : goal.returns-then-len-ge-MOST_SETS-clause-limit
+returns-then-len-ge-MOST_SETS-clause-limit c =
     let sets = c.args.sets.now.items in
     let place : Err c.in-Err.place ≡ name_place c.args.name.bytes.now (set_names sets) = rw (c.as_slice.ensures.value, c.as_bytes.ensures) at c.in-Err.ensures.place in
     sym (full_new sets c.args.name.bytes.now c.in-Err.place c.requires.ascending (sym place)) ∙ le-leb MOST_SETS (length sets) (omega arith)
