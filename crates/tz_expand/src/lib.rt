@@ -4,6 +4,16 @@
 //! instant, `expand_between` all that meet a stretch, and `dump_zones` the same of many zones at once. No full
 //! expansion is ever made: each answer comes from a few occurrences near the instant or the stretch. The crate stands
 //! on `tz_rules` for occurrences and their changes, and on `rayon` for dumps.
+//!
+//! ```rust
+//! // New York, where summer time began at 1710054000
+//! let zone = compile(alloc, &db, 0)?;
+//! let mut steps = Steps::<L>::new(blank);
+//! let range = info_at(&zone, 1_720_000_000, &mut steps);
+//! assert_eq!(rt; range.map(|range| (range.begin, range.offset)), Some((1_710_054_000, -14_400)));
+//! let year = expand_between(alloc, &zone, 1_704_067_200, 1_735_689_600, &mut steps)?;
+//! assert_eq!(rt; year.len(), 3);
+//! ```
 #![tactic(auto)]
 
 mod compilation;

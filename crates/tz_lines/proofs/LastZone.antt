@@ -11,17 +11,18 @@ use Rattle.tz_types.specs.declared.limit.TheConstants.{MOST_ZONE_LINES}
 use Rattle.tz_types.specs.declared.until.Until.{Until}
 use Rattle.tz_types.specs.declared.zone_line.ZoneLine.{ZoneLine}
 use Rattle.tz_types.specs.declared.zone.Zone.{Zone}
-use Rattle.tz_types.specs.declared.rule_set.RuleSet.{RuleSet}
 use Rattle.tz_types.specs.declared.link.Link.{Link}
-use Rattle.tz_specs.specs.Written.{WrittenZone, written_until, written_line, written_zone, written_set, written_link}
+use Rattle.tz_specs.specs.Written.{WrittenZone, written_until, written_line, written_zone, written_link}
 use Rattle.tz_specs.specs.Contents.{Contents, last_lines, wants_line, with_line}
 use Rattle.tz_rules.specs.Continued.{are_continued}
+use Rattle.tz_lines.specs.declared.rule_sets.RuleSets.{RuleSets}
+use Rattle.tz_lines.specs.Gathered.{sets_gathered}
 use Rattle.tz_lines.specs.LastZone.{zone_names, zone_lines, with_last_line, HasRoom}
 
 -- the contents of sets and links as they stand, and of zones as they are written
-abbrev pub contents_by : Bool → List RuleSet → List Link → List WrittenZone → Contents
+abbrev pub contents_by : Bool → RuleSets → List Link → List WrittenZone → Contents
 contents_by begun sets links zones =
-    record { sets = map written_set sets; zones = zones; links = map written_link links; begun = begun }
+    record { sets = sets_gathered sets; zones = zones; links = map written_link links; begun = begun }
 
 last_at : {X : Type 0} (xs : List X) → slice_get xs (length xs - 1) ≡ last_or None xs
 last_at [] = refl

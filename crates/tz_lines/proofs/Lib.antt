@@ -1,4 +1,5 @@
 pub mod Lines
+pub mod NameIndex
 pub mod RuleSets
 pub mod Records
 pub mod GatheredLines

@@ -19,49 +19,9 @@ use Rattle.tz_specs.specs.Value.{is_exactly}
 use Rattle.tz_specs.specs.Written.{written_rules, written_line, written_zone}
 use Rattle.tz_rules.specs.Continued.{is_named_by}
 use Rattle.tz_rules.proofs.FirstLines.{same_name}
+use Rattle.tz_lines.specs.NameIndex.{name_position}
 use Rattle.tz_lines.specs.SetNames.{with_set_name, AreBegun}
-
--- the place of a name, when one more came
-
-next_within : (here : Bool) (place count : ℕ) → place ≤ count → cond here (1 + place) 0 ≤ suc count
-next_within true place count within = omega arith
-next_within false place count within = omega arith
-
-within_all : {X : Type 0} (p : X → Bool) (xs : List X) → position_or_len p xs ≤ length xs
-within_all p [] = omega arith
-within_all p (x ∷ xs) = next_within (not (p x)) (position_or_len p xs) (length xs) (within_all p xs)
-
-by_place : (place count : ℕ) (here : Bool) → place ≤ count → cond (nat_lt (cond (eqb place count) (count + cond here 0 1) place) (count + 1)) (Some (cond (eqb place count) (count + cond here 0 1) place)) None ≡ cond (nat_lt place count) (Some place) (cond here (Some count) None)
-by_place place count true within = grind (arith, nat_tests)
-by_place place count false within = grind (arith, nat_tests)
-
-pushed : {X : Type 0} (p : X → Bool) (xs : List X) (x : X) → position p (xs ++ x ∷ []) ≡ cond (nat_lt (position_or_len p xs) (length xs)) (Some (position_or_len p xs)) (cond (p x) (Some (length xs)) None)
-pushed p xs x =
-    rw (position_or_len_push p xs x, length-append xs (x ∷ [])) (by_place (position_or_len p xs) (length xs) (p x) (within_all p xs))
-
--- whether the place is that of one of them
-abbrev placed : ℕ → ℕ → Option ℕ
-placed place count = cond (nat_lt place count) (Some place) None
-
-last_placed : (place count : ℕ) → placed place count ≡ None → cond (nat_lt place count) (Some place) (Some count) ≡ Some count
-last_placed place count none = by_test (nat_lt place count) none
-  where
-    by_test : (within : Bool) → cond within (Some place) None ≡ None → cond within (Some place) (Some count) ≡ Some count
-    by_test true e = cc
-    by_test false e = refl
-
-by_name : (places : List ℕ → Option ℕ) (labels : List (List ℕ)) (name other : List ℕ) (same : Bool) → is_exactly name other ≡ same → places name ≡ None → ((it : List ℕ) → places it ≡ position (λ label. is_exactly label it) labels) → cond same (Some (length labels)) (places other) ≡ position (λ label. is_exactly label other) (labels ++ name ∷ [])
-by_name places labels name other true e none at =
-    let equal : name ≡ other = (bytes_eq-Decides name other).0 e in
-    let missing : position (λ label. is_exactly label other) labels ≡ None = sym (at other) ∙ ap places (sym equal) ∙ none in
-    rw (pushed (λ label. is_exactly label other) labels name, e) (sym (last_placed (position_or_len (λ label. is_exactly label other) labels) (length labels) missing))
-by_name places labels name other false e none at =
-    rw (pushed (λ label. is_exactly label other) labels name, e) (at other)
-
--- the index with the place of a new name
-pub indexed : (places : List ℕ → Option ℕ) (labels : List (List ℕ)) (name other : List ℕ) (new : Option ℕ) → new ≡ cond (is_eq (slice_cmp nat_cmp name other)) (Some (length labels)) (places other) → places name ≡ None → ((it : List ℕ) → places it ≡ position (λ label. is_exactly label it) labels) → new ≡ position (λ label. is_exactly label other) (labels ++ name ∷ [])
-indexed places labels name other new e none at =
-    e ∙ ap (λ same. cond same (Some (length labels)) (places other)) (same_name name other) ∙ by_name places labels name other (is_exactly name other) refl none at
+use Rattle.tz_lines.proofs.NameIndex.{not_there}
 
 -- a name that is there, and one that isn't
 
@@ -79,34 +39,7 @@ there (label ∷ labels) (suc place) name e = or_later (is_exactly label name) (
 pub known_kept : (labels : List (List ℕ)) (place : ℕ) (name : List ℕ) → slice_get labels place ≡ Some name → labels ≡ with_set_name name labels
 known_kept labels place name e = rw (there labels place name e) refl
 
-pub found_there : (labels : List (List ℕ)) (place : ℕ) (name : List ℕ) → position (λ label. is_exactly label name) labels ≡ Some place → slice_get labels place ≡ Some name
-found_there labels place name e =
-    let at = position-Some (λ label. is_exactly label name) labels place [] e in
-    slice_get-get_or labels place [] at.0 ∙ ap Some ((bytes_eq-Decides (get_or labels place []) name).0 at.1)
-
-later : (place count : ℕ) → placed (1 + place) (suc count) ≡ None → placed place count ≡ None
-later place count e =
-    let same : nat_lt (1 + place) (suc count) ≡ nat_lt place count = grind (arith, nat_tests) in
-    by_test (nat_lt place count) (ap (λ within. cond within (Some (1 + place)) None) (sym same) ∙ e)
-  where
-    by_test : (within : Bool) → cond within (Some (1 + place)) None ≡ None → cond within (Some place) None ≡ None
-    by_test true e = cc
-    by_test false e = refl
-
-none_or_some : (place : ℕ) → Some place ≡ None → ⊥
-none_or_some place e = cc
-
-not_there : (labels : List (List ℕ)) (name : List ℕ) → position (λ label. is_exactly label name) labels ≡ None → list_any (λ label. is_exactly label name) labels ≡ false
-not_there [] name e = refl
-not_there (label ∷ labels) name e = by_test (is_exactly label name) e (not_there labels name)
-  where
-    by_test : (here : Bool) → placed (cond (not here) (1 + position_or_len (λ it. is_exactly it name) labels) 0) (suc (length labels)) ≡ None → (position (λ it. is_exactly it name) labels ≡ None → list_any (λ it. is_exactly it name) labels ≡ false) → (here || list_any (λ it. is_exactly it name) labels) ≡ false
-    by_test true e next =
-        let some : nat_lt 0 (suc (length labels)) ≡ true = grind (arith, nat_tests) in
-        absurd (none_or_some 0 (rw some at e))
-    by_test false e next = next (later (position_or_len (λ it. is_exactly it name) labels) (length labels) e)
-
-pub new_pushed : (labels : List (List ℕ)) (name : List ℕ) → position (λ label. is_exactly label name) labels ≡ None → labels ++ name ∷ [] ≡ with_set_name name labels
+pub new_pushed : (labels : List (List ℕ)) (name : List ℕ) → name_position name labels ≡ None → labels ++ name ∷ [] ≡ with_set_name name labels
 new_pushed labels name e = rw (not_there labels name e) refl
 
 -- the place of the last
@@ -118,11 +51,6 @@ last_there (label ∷ labels) name = last_there labels name
 pub added_place : {E : Type 0} (told : Result ℕ E) (labels others : List (List ℕ)) (name : List ℕ) → IfOk told (λ place. place ≡ length labels) → OnOk told (others ≡ labels ++ name ∷ []) → IfOk told (λ place. slice_get others place ≡ Some name)
 added_place (Ok place) labels others name last more = rw (last, more) (last_there labels name)
 added_place (Err error) labels others name last more = tt
-
--- what a push leaves that finds room
-pub pushed_items : {X A E : Type 0} (told : Result A E) (olds news : List X) (x : X) → news ≡ (if is_ok told then olds ++ x ∷ [] else olds) → IsOk told → news ≡ olds ++ x ∷ []
-pushed_items (Ok done) olds news x e ok = e
-pushed_items (Err error) olds news x e ok = cc
 
 -- a name at a place is still there, when more come
 

@@ -1,4 +1,6 @@
 pub mod AddingOutcome
+pub mod NameIndex
+pub mod RuleSets
 pub mod SetNames
 pub mod Gathered
 pub mod Following

@@ -13,11 +13,10 @@ ghost use Rattle.tz_lines.specs.AddingOutcome.{MeansLimit};
 use crate::contents::Gathered;
 use crate::error::AddError;
 use crate::last_zone::{continue_last, zone_of};
-use crate::rule_sets::add_rule;
+use crate::rule_sets::RuleSets;
 use crate::set_names::SetNames;
 use crate::zone_line::zone_line;
 use std::alloc::Global;
-use std::mem;
 use tz_records::{Entry, EntryLine, GivenName};
 use tz_types::{Items, Link, MOST_TEXT_LINES, NoMemory, Rule, ZoneLine};
 
@@ -28,8 +27,7 @@ impl Gathered {
         ensures names { length result.names.labels.items ≡ 0 }
     {
         Gathered {
-            sets: Items::new(alloc),
-            last_set: 0,
+            sets: RuleSets::new(alloc),
             names: SetNames::new(alloc),
             zones: Items::new(alloc),
             links: Items::new(alloc),
@@ -43,22 +41,18 @@ impl Gathered {
         ensures contents { OnOk result (contents_gathered self.new ≡ with_record (RuleRecord name.entry.bytes.now (written_rule rule)) (contents_gathered self.old)) }
         ensures names { length self.new.names.labels.items ≡ length self.old.names.labels.items }
     {
-        // `Items` lends none of its elements to be changed, so the whole list is taken out and put back.
-        let mut sets = mem::replace(&mut self.sets, Items::new(alloc)).into_vec();
-        add_rule(alloc, &mut sets, &mut self.last_set, name, rule)?;
-        self.sets = Items::from_vec(sets);
-        Ok(())
+        self.sets.add(alloc, name, rule)
     }
 
     /// The line of a zone that an entry says. The name of its rule set is among the names from then on.
-    fn zone_line(&mut self, entry: EntryLine<'_>) -> Result<ZoneLine, NoMemory>
+    fn zone_line(&mut self, alloc: Global, entry: EntryLine<'_>) -> Result<ZoneLine, NoMemory>
         requires { length self.old.names.labels.items < 2 ^ 32 }
         ensures contents { contents_gathered self.new ≡ contents_gathered self.old }
         ensures line { IfOk result (λ it. written_line self.new.names.labels.items it ≡ written_entry_line entry.entry) }
         ensures named { IfOk result (λ it. IsTrue (is_named_by (length self.new.names.labels.items) it.rules)) }
         ensures names { length self.new.names.labels.items ≤ length self.old.names.labels.items + 1 }
     {
-        zone_line(&mut self.names, entry)
+        zone_line(alloc, &mut self.names, entry)
     }
 
     fn begin_zone(
@@ -75,13 +69,13 @@ impl Gathered {
         if self.exceeds_zones() {
             return Err(AddError::Limit);
         }
-        let line = self.zone_line(entry)?;
+        let line = self.zone_line(alloc, entry)?;
         self.zones.push(zone_of(alloc, name, line)?)?;
         self.begun = true;
         Ok(())
     }
 
-    fn continue_zone(&mut self, entry: EntryLine<'_>) -> Result<(), AddError>
+    fn continue_zone(&mut self, alloc: Global, entry: EntryLine<'_>) -> Result<(), AddError>
         requires room { length self.old.names.labels.items < 2 ^ 32 }
         requires waits { IsTrue (is_in_place (contents_gathered self.old) (Continuation (written_entry_line entry))) }
         ensures limit { MeansLimit result (exceeds (contents_gathered self.old) (Continuation (written_entry_line entry.entry))) }
@@ -91,7 +85,7 @@ impl Gathered {
         if self.exceeds_lines() {
             return Err(AddError::Limit);
         }
-        let line = self.zone_line(entry)?;
+        let line = self.zone_line(alloc, entry)?;
         continue_last(&mut self.zones, line)?;
         Ok(())
     }
@@ -139,7 +133,7 @@ impl Gathered {
         match entry {
             Entry::Rule { name, rule } => self.add_rule(alloc, name, rule),
             Entry::Zone { name, line } => self.begin_zone(alloc, name, line),
-            Entry::Continuation(line) => self.continue_zone(line),
+            Entry::Continuation(line) => self.continue_zone(alloc, line),
             Entry::Link { target, name, line } => self.add_link(target, name, line),
         }
     }

@@ -1,26 +1,22 @@
 //! What the lines read so far have given.
-ghost use Rattle.std.specs.Prelude.{◌≤◌, length, map, IsTrue};
+ghost use Rattle.std.specs.Prelude.{◌≤◌, length, IsTrue};
 ghost use Rattle.std.specs.List.{list_all};
-ghost use Rattle.tz_types.specs.Order.{ascends, name_before};
-ghost use Rattle.tz_types.specs.declared.limit.TheConstants.{MOST_SETS, MOST_ZONES, MOST_LINKS};
+ghost use Rattle.tz_types.specs.declared.limit.TheConstants.{MOST_ZONES, MOST_LINKS};
 ghost use Rattle.tz_rules.specs.Continued.{are_continued, is_named_by};
 
+use crate::rule_sets::RuleSets;
 use crate::set_names::SetNames;
-use tz_types::{Items, Link, RuleSet, Zone};
+use tz_types::{Items, Link, Zone};
 
-/// What the lines of a text have given so far: rule sets in the order of their names, and zones and links in the order
-/// of their lines, and whether a zone was begun in the file that is read. A line of a zone that follows a rule set gives the place of the set's name among the names.
+/// What the lines of a text have given so far: rule sets, zones and links in the order of their lines, and whether a zone was
+/// begun in the file that is read. A line of a zone that follows a rule set gives the place of the set's name among the names.
 #[derive(Debug, Drop)]
 pub struct Gathered {
-    pub sets: Items<RuleSet>,
-    /// Where the set of the rule that came last stands, unless sets were put in before it since. Nothing rests on it.
-    pub last_set: usize,
+    pub sets: RuleSets,
     pub names: SetNames,
     pub zones: Items<Zone>,
     pub links: Items<Link>,
     pub begun: bool,
-    pub ghost sets_ascend: { IsTrue (ascends name_before (map (λ set. set.name) sets)) },
-    pub ghost few_sets: { length sets ≤ MOST_SETS },
     pub ghost few_zones: { length zones ≤ MOST_ZONES },
     pub ghost few_links: { length links ≤ MOST_LINKS },
     pub ghost continued: { IsTrue (list_all (λ zone. are_continued zone.lines) zones) },

@@ -19,6 +19,7 @@ mod leap_faults;
 mod leap_reading;
 mod limits;
 mod locating;
+mod name_index;
 mod parts;
 mod places;
 mod reading;

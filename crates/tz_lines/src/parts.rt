@@ -23,7 +23,7 @@ impl Gathered {
         } = self;
         Parts {
             version,
-            sets,
+            sets: sets.into_ordered(),
             names: names.into_labels(),
             zones,
             links,

@@ -1,13 +1,10 @@
 //! Names of rule sets that lines of zones give.
-ghost use Rattle.std.specs.Prelude.{◌≡◌, ℕ, ◌+◌, ◌<◌, ◌≤◌, ◌^◌, [], ◌∷◌, ◌++◌, List, Some, None, length, position, slice_get, IsTrue, IfOk, OnOk, OnErr};
-ghost use Rattle.std.specs.Ordering.{nat_cmp};
-ghost use Rattle.std.specs.Cmp.Lexicographic.{slice_cmp};
-ghost use Rattle.std.specs.BTreeMap.{get};
-ghost use Rattle.tz_specs.specs.Value.{is_exactly};
+ghost use Rattle.std.specs.Prelude.{◌≡◌, ◌+◌, ◌<◌, ◌≤◌, ◌^◌, [], ◌∷◌, ◌++◌, Some, None, length, slice_get, IsTrue, IfOk, OnOk, OnErr};
+ghost use Rattle.tz_lines.specs.NameIndex.{name_position, IsIndex};
 ghost use Rattle.tz_lines.specs.SetNames.{with_set_name, AreBegun};
 
+use crate::name_index::NameIndex;
 use std::alloc::Global;
-use std::collections::BTreeMap;
 use tz_records::GivenName;
 use tz_types::{Items, Label, NoMemory};
 
@@ -15,11 +12,10 @@ use tz_types::{Items, Label, NoMemory};
 #[derive(Debug, Drop)]
 pub struct SetNames {
     labels: Vec<Label>,
-    /// The place of each name among them.
-    places: BTreeMap<Label, u32>,
+    places: NameIndex,
     /// The place of the name that came last: a line of a zone mostly gives the name that the line before it gave.
     last: u32,
-    ghost placed: { (name : List ℕ) → get (slice_cmp nat_cmp) places name ≡ position (λ label. is_exactly label name) labels.items },
+    ghost placed: { IsIndex places labels.items },
 }
 
 impl SetNames {
@@ -29,7 +25,7 @@ impl SetNames {
     {
         SetNames {
             labels: Vec::new(alloc),
-            places: BTreeMap::new(alloc),
+            places: NameIndex::new(alloc),
             last: 0,
         }
     }
@@ -45,16 +41,16 @@ impl SetNames {
     }
 
     /// Adds a name that isn't there, and says its place.
-    fn add(&mut self, name: Label) -> Result<u32, NoMemory>
+    fn add(&mut self, alloc: Global, name: Label) -> Result<u32, NoMemory>
         requires room { length self.old.labels.items < 2 ^ 32 }
-        requires missing { get (slice_cmp nat_cmp) self.old.places name ≡ None }
+        requires missing { name_position name self.old.labels.items ≡ None }
         ensures place { IfOk result (λ place. place ≡ length self.old.labels.items) }
         ensures ok { OnOk result (self.new.labels.items ≡ self.old.labels.items ++ name ∷ []) }
         ensures err { OnErr result (self.new.labels.items ≡ self.old.labels.items) }
     {
         let place = self.labels.len() as u32;
         self.labels.reserve(1)?;
-        self.places.insert(name.copied(), place)?;
+        self.places.insert(alloc, name.as_bytes(), place)?;
         match self.labels.push(name) {
             Ok(()) => Ok(place),
             Err(_) => unreachable!(),
@@ -62,22 +58,21 @@ impl SetNames {
     }
 
     /// The place of a name by a search. It is added where it is new.
-    fn search(&mut self, name: GivenName<'_>) -> Result<u32, NoMemory>
+    fn search(&mut self, alloc: Global, name: GivenName<'_>) -> Result<u32, NoMemory>
         requires { length self.old.labels.items < 2 ^ 32 }
         ensures place { IfOk result (λ place. slice_get self.new.labels.items place ≡ Some name.entry.bytes.now) }
         ensures labels { OnOk result (self.new.labels.items ≡ with_set_name name.entry.bytes.now self.old.labels.items) }
         ensures begun { AreBegun self.old.labels.items self.new.labels.items }
         ensures few { length self.new.labels.items ≤ length self.old.labels.items + 1 }
     {
-        let label = name.label();
-        match self.places.get(&label) {
-            Some(place) => Ok(*place),
-            None => self.add(label),
+        match self.places.get(name.as_bytes()) {
+            Some(place) => Ok(place),
+            None => self.add(alloc, name.label()),
         }
     }
 
     /// The place of a name, which is added where it is new.
-    pub fn place(&mut self, name: GivenName<'_>) -> Result<u32, NoMemory>
+    pub fn place(&mut self, alloc: Global, name: GivenName<'_>) -> Result<u32, NoMemory>
         requires { length self.old.labels.items < 2 ^ 32 }
         ensures place { IfOk result (λ place. slice_get self.new.labels.items place ≡ Some name.entry.bytes.now) }
         ensures labels { OnOk result (self.new.labels.items ≡ with_set_name name.entry.bytes.now self.old.labels.items) }
@@ -87,7 +82,7 @@ impl SetNames {
         if self.came_last(name.as_bytes()) {
             return Ok(self.last);
         }
-        let place = self.search(name)?;
+        let place = self.search(alloc, name)?;
         self.last = place;
         Ok(place)
     }

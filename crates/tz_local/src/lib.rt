@@ -6,9 +6,18 @@
 //! no offset is above two days, and take no memory. They follow ISO C++20 [time.zone.info.local] and [time.zone.members]. The
 //! crate stands on `info_at` of `tz_expand`.
 //!
-//! In New York the clock went from 2:00 to 3:00 on 2024-03-10. So 2:30 of that day, the local time 1710037800, doesn't exist,
-//! and by either choice it gives the instant of the change, 1710054000. On 2024-11-03 the clock went back from 2:00 to 1:00.
-//! So 1:30 of that day, 1730597400, is ambiguous: 1730611800 by `Earliest` and 1730615400 by `Latest`.
+//! ```rust
+//! // New York's clock went from 2:00 to 3:00 on 2024-03-10, so 2:30 of that day doesn't exist
+//! let half_past_two = civil_seconds(2024, 3, 10, 2, 30, 0)?;
+//! let info = local_info(&zone, half_past_two)?;
+//! assert!(rt; matches!(&info, LocalInfo::Nonexistent { .. }));
+//! assert_eq!(rt; to_sys(&zone, half_past_two, None), Err(ToSysError::Undecided(info)));
+//! // by either choice it gives the instant of the change
+//! assert_eq!(rt; to_sys(&zone, half_past_two, Some(Choose::Latest)), Ok(1_710_054_000));
+//! ```
+//!
+//! On 2024-11-03 that clock went back from 2:00 to 1:00. So 1:30 of that day, 1730597400, is ambiguous: 1730611800 by
+//! `Earliest` and 1730615400 by `Latest`.
 #![tactic(auto)]
 
 mod findings;

@@ -8,8 +8,15 @@
 //! 1970-01-01 00:00:00, and days are counted from 1970-01-01. Ranges are those of ISO C++20 [time.zone.info.sys]; the
 //! crate stands on `info_at` and `expand_between` of `tz_expand`.
 //!
-//! New York's clock moved at 1710054000 to -14400 with a save of 3600, EDT, and at 1730613600 to -18000, EST. So of
-//! the days of 2024 the day 19792 has 82800 seconds, the day 20030 has 90000, and each other has 86400.
+//! ```rust
+//! // New York's clock moved at 1710054000 to -14400 with a save of 3600, EDT, and at 1730613600 back to -18000, EST
+//! let moves = moves_between(alloc, &zone, 1_704_067_200, 1_735_689_600)?;
+//! assert_eq!(rt; moves.len(), 2);
+//! assert_eq!(rt; (moves[0].at, moves[0].offset, moves[0].save), (1_710_054_000, -14_400, 3_600));
+//! // so 2024-03-10 has 23 hours, and 2024-11-03 has 25
+//! assert_eq!(rt; day_seconds(&zone, 19_792), Ok(82_800));
+//! assert_eq!(rt; day_seconds(&zone, 20_030), Ok(90_000));
+//! ```
 #![tactic(auto)]
 
 mod day;

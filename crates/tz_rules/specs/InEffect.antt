@@ -6,6 +6,7 @@ use Rattle.tz_types.specs.declared.rule_set.RuleSet.{RuleSet}
 use Rattle.tz_specs.specs.Occurrence.{Occurrence, nominal_of, precedes}
 use Rattle.tz_specs.specs.Standing.{IsOccurrence}
 use Rattle.tz_specs.specs.Effect.{ComesAt, IsInEffect, NoneInEffect}
+use Rattle.tz_rules.specs.declared.shift.TheConstants.{MOST_SHIFT}
 use Rattle.tz_rules.specs.Placed.{Placed, OccursIn, StandsIn}
 use Rattle.tz_rules.specs.Search.{in_year}
 
@@ -38,7 +39,7 @@ pub record HasCome (set : RuleSet) (stdoff t : ℤ) (occurrence : Occurrence) : 
 -- what comes two days before t on its own clock has come, or nothing is there
 abbrev pub is_settled : ℤ → Option Placed → Bool
 is_settled t None = true
-is_settled t (Some found) = int_le (nominal_of found.occurrence) (t -ℤ pos 172_800)
+is_settled t (Some found) = int_le (nominal_of found.occurrence) (t -ℤ MOST_SHIFT)
 
 -- the occurrence comes after the one found so far, where there is one
 abbrev pub follows : Option Placed → Placed → Bool
@@ -50,11 +51,11 @@ follows (Some other) found = precedes other.occurrence found.occurrence
 pub record LastCome (set : RuleSet) (stdoff t : ℤ) (before : ℕ) (found : Placed) : Type 0 where
   pub stands : StandsIn set found
   pub come : HasCome set stdoff t found.occurrence
-  pub settled : (other : Occurrence) → IsOccurrence set other → nominal_of other ≤ℤ (t -ℤ pos 172_800) → precedes found.occurrence other ≡ false
+  pub settled : (other : Occurrence) → IsOccurrence set other → nominal_of other ≤ℤ (t -ℤ MOST_SHIFT) → precedes found.occurrence other ≡ false
   pub last : (place : ℕ) (rule : Rule) (year : ℤ) → place < before → slice_get set.rules place ≡ Some rule → OccursIn rule year → HasCome set stdoff t (in_year rule year) → precedes found.occurrence (in_year rule year) ≡ false
 
 pub record NoneCome (set : RuleSet) (stdoff t : ℤ) (before : ℕ) : Type 0 where
-  pub settled : (other : Occurrence) → IsOccurrence set other → (t -ℤ pos 172_800) <ℤ nominal_of other
+  pub settled : (other : Occurrence) → IsOccurrence set other → (t -ℤ MOST_SHIFT) <ℤ nominal_of other
   pub none : (place : ℕ) (rule : Rule) (year : ℤ) → place < before → slice_get set.rules place ≡ Some rule → OccursIn rule year → ¬ (HasCome set stdoff t (in_year rule year))
 
 abbrev pub IsLastCome : RuleSet → ℤ → ℤ → ℕ → Option Placed → Type 0
@@ -63,6 +64,6 @@ IsLastCome set stdoff t before (Some found) = LastCome set stdoff t before found
 
 -- an occurrence near t that has come, and comes after the one found so far
 pub record ComesLater (set : RuleSet) (stdoff t : ℤ) (last : Option Placed) (found : Placed) : Type 0 where
-  pub near : (t -ℤ pos 172_800) <ℤ nominal_of found.occurrence
+  pub near : (t -ℤ MOST_SHIFT) <ℤ nominal_of found.occurrence
   pub follows_it : follows last found ≡ true
   pub come : HasCome set stdoff t found.occurrence

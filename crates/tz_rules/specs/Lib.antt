@@ -8,17 +8,3 @@ pub mod Search
 pub mod InEffect
 pub mod NextChange
 pub mod Taken
-pub mod LeastFault
-pub mod NamePlace
-pub mod FirstLine
-pub mod Continued
-pub mod NameMap
-pub mod Parts
-pub mod LineOrder
-pub mod Built
-pub mod Reach
-pub mod SetPlace
-pub mod ZonePlace
-pub mod Settled
-pub mod Stops
-pub mod Messages

@@ -1,5 +1,5 @@
 -- What comes next, and how far a search for it has come.
-use Rattle.std.specs.Prelude.{◌≡◌, ℕ, ◌<◌, ◌||◌, ◌&&◌, if◌then◌else◌, ℤ, pos, neg_ℤ, ◌-ℤ◌, ◌≤ℤ◌, Bool, false, IsTrue, int_lt, Option, Some, None, slice_get}
+use Rattle.std.specs.Prelude.{◌≡◌, ℕ, ◌<◌, ◌||◌, ◌&&◌, if◌then◌else◌, ℤ, pos, neg_ℤ, ◌+ℤ◌, ◌-ℤ◌, ◌≤ℤ◌, Bool, false, IsTrue, int_lt, Option, Some, None, slice_get}
 use Rattle.std.specs.Ordering.{int_eq}
 use Rattle.tz_types.specs.declared.rule.Rule.{Rule}
 use Rattle.tz_types.specs.declared.rule_set.RuleSet.{RuleSet}
@@ -11,6 +11,7 @@ use Rattle.tz_specs.specs.Around.{IsToCome, IsNextChange}
 use Rattle.tz_rules.specs.declared.mark.Mark.{Mark}
 use Rattle.tz_rules.specs.declared.next_change.Coming.{Coming}
 use Rattle.tz_rules.specs.declared.next_change.Window.{Window}
+use Rattle.tz_rules.specs.declared.shift.TheConstants.{MOST_SHIFT}
 use Rattle.tz_rules.specs.Placed.{Placed, OccursIn, StandsIn}
 use Rattle.tz_rules.specs.Mark.{is_after, IsLatestYear, IsEarliestYear}
 use Rattle.tz_rules.specs.Search.{in_year, FirstAfter}
@@ -25,7 +26,7 @@ mark_from (Some found) = record { second = nominal_of found.occurrence; line = f
 pub record IsWindow (set : RuleSet) (window : Window) : Type 0 where
   pub earliest : IsEarliestYear window.mark.second window.earliest
   pub latest : IsLatestYear window.limit window.latest
-  pub from : (other : Occurrence) → IsOccurrence set other → IsTrue (is_after window.mark other) → (window.limit -ℤ pos 345_600) ≤ℤ nominal_of other
+  pub from : (other : Occurrence) → IsOccurrence set other → IsTrue (is_after window.mark other) → (window.limit -ℤ (MOST_SHIFT +ℤ MOST_SHIFT)) ≤ℤ nominal_of other
 
 -- the soonest occurrence after the mark, and of those that come at one instant the last, of one that is known and of
 -- the rules that stand before a place
@@ -33,7 +34,7 @@ pub record IsSoonest (set : RuleSet) (stdoff : ℤ) (window : Window) (before : 
   pub stands : StandsIn set coming.occurrence
   pub after : IsTrue (is_after window.mark coming.occurrence.occurrence)
   pub comes : ComesAt set stdoff coming.occurrence.occurrence coming.at
-  pub within : coming.at ≤ℤ (window.limit -ℤ pos 172_800)
+  pub within : coming.at ≤ℤ (window.limit -ℤ MOST_SHIFT)
   pub soonest : (place : ℕ) (rule : Rule) (year instant : ℤ) → place < before → slice_get set.rules place ≡ Some rule → OccursIn rule year → IsTrue (is_after window.mark (in_year rule year)) → ComesAt set stdoff (in_year rule year) instant → coming.at ≤ℤ instant
   pub last : (place : ℕ) (rule : Rule) (year instant : ℤ) → place < before → slice_get set.rules place ≡ Some rule → OccursIn rule year → IsTrue (is_after window.mark (in_year rule year)) → ComesAt set stdoff (in_year rule year) instant → instant ≡ coming.at → precedes coming.occurrence.occurrence (in_year rule year) ≡ false
 

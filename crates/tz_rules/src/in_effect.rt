@@ -4,6 +4,7 @@
 ghost use Rattle.std.specs.Prelude.{◌≡◌, ◌⊎◌, ◌+◌, ◌*◌, ◌<◌, ◌≤◌, ◌+ℤ◌, pos, neg_ℤ, true, false, IsTrue, length};
 ghost use Rattle.jiff_core.specs.Calendar.{IsYear};
 ghost use Rattle.tz_types.specs.Amount.{IsShift};
+ghost use Rattle.tz_rules.specs.declared.shift.TheConstants.{MOST_SHIFT};
 ghost use Rattle.tz_rules.specs.Mark.{IsLatestYear};
 ghost use Rattle.tz_rules.specs.Placed.{StandsIn};
 ghost use Rattle.tz_rules.specs.InEffect.{IsNearTime, IsAsGoodAs, IsState, IsLastCome, ComesLater, is_settled, follows};
@@ -12,12 +13,10 @@ use crate::instant::instant_of;
 use crate::mark::{Mark, latest_year};
 use crate::previous_occurrence::{last_by, last_of_rule};
 use crate::rule_year::RuleYear;
+use crate::shift::MOST_SHIFT;
 use crate::years::FIRST_YEAR;
 use std::sync::ledger::Ledger;
 use tz_types::{RuleSet, Steps};
-
-/// How many seconds a clock is at most ahead of universal time, or behind it: a standard offset and a save of a day.
-pub(crate) const MOST_SHIFT: i64 = 172_800;
 
 /// All occurrences come after this instant.
 pub(crate) const BEFORE_ALL: i64 = -377_678_000_000;
@@ -35,7 +34,7 @@ pub(crate) fn near_time(t: i64) -> i64
 /// The mark after what comes up to two days after `t` on its own clock.
 fn two_days_after(t: i64) -> Mark
     requires { IsNearTime t }
-    ensures second { result.second ≡ t +ℤ pos 172_801 }
+    ensures second { result.second ≡ t +ℤ (MOST_SHIFT +ℤ pos 1) }
     ensures line { result.line ≡ 0 }
 {
     Mark {
@@ -104,7 +103,7 @@ fn come_with<'a, L: Ledger>(
     requires stdoff_in { IsShift stdoff }
     requires near { IsNearTime t }
     requires latest_in { IsYear latest }
-    requires latest { IsLatestYear (t +ℤ pos 172_801) latest }
+    requires latest { IsLatestYear (t +ℤ (MOST_SHIFT +ℤ pos 1)) latest }
     requires place_in { place < length set.now.rules }
     requires so_far { IsLastCome set.now stdoff t place last }
     ensures last { IsLastCome set.now stdoff t (place + 1) result }

@@ -6,16 +6,18 @@ ghost use Rattle.jiff_core.specs.Calendar.{IsYear};
 ghost use Rattle.tz_types.specs.Amount.{IsShift};
 ghost use Rattle.tz_types.specs.declared.rule_set.RuleSet.{RuleSet};
 ghost use Rattle.tz_specs.specs.Occurrence.{nominal_of};
+ghost use Rattle.tz_rules.specs.declared.shift.TheConstants.{MOST_SHIFT};
 ghost use Rattle.tz_rules.specs.Mark.{IsInReach};
 ghost use Rattle.tz_rules.specs.Search.{FirstAfter};
 ghost use Rattle.tz_rules.specs.InEffect.{IsNearTime};
 ghost use Rattle.tz_rules.specs.NextChange.{mark_from, IsWindow, IsSoonest, is_sooner, sooner_of, IsFirstToCome, IsNextAfter};
 
-use crate::in_effect::{BEFORE_ALL, MOST_SHIFT, in_effect};
+use crate::in_effect::{BEFORE_ALL, in_effect};
 use crate::instant::{instant_of, save_by};
 use crate::mark::{Mark, earliest_year, latest_year};
 use crate::next_occurrence::{first_after_mark, first_of_rule};
 use crate::rule_year::RuleYear;
+use crate::shift::MOST_SHIFT;
 use std::sync::ledger::Ledger;
 use tz_types::{RuleSet, Steps};
 
@@ -53,7 +55,7 @@ fn mark_after(state: &Option<RuleYear<'_>>) -> Mark
 fn window_from(mark: Mark, first: &RuleYear<'_>) -> Window
     requires { IsInReach mark.second }
     ensures mark { result.mark ≡ mark }
-    ensures limit { result.limit ≡ nominal_of first.now.occurrence +ℤ pos 345_600 }
+    ensures limit { result.limit ≡ nominal_of first.now.occurrence +ℤ (MOST_SHIFT +ℤ MOST_SHIFT) }
     ensures window { (set : RuleSet) → FirstAfter set mark first.now → IsWindow set result }
     ensures earliest { IsYear result.earliest }
     ensures latest { IsYear result.latest }

@@ -7,6 +7,7 @@ ghost use Rattle.tz_types.specs.Amount.{IsShift};
 ghost use Rattle.tz_specs.specs.Occurrence.{nominal_second};
 ghost use Rattle.tz_specs.specs.Until.{Rules, until_instant};
 ghost use Rattle.tz_specs.specs.Effect.{until_with};
+ghost use Rattle.tz_rules.specs.declared.until.TheConstants.{SURELY_EARLIER};
 ghost use Rattle.tz_rules.specs.Following.{following_given};
 ghost use Rattle.tz_rules.specs.Mark.{IsInReach};
 ghost use Rattle.tz_rules.specs.Passed.{Passed, NoneBy, PassesFirst, PassesNext};
@@ -15,14 +16,13 @@ use crate::mark::Mark;
 use crate::next_occurrence::{first_after, first_after_mark};
 use crate::previous_occurrence::last_by;
 use crate::rule_year::RuleYear;
-use crate::shift::shift_of;
+use crate::shift::{MOST_SHIFT, shift_of};
 use std::marker::Brand;
 use std::sync::ledger::{Blank, Ledger};
 use tz_types::{RuleSet, Steps, Until, nominal};
 
-/// A clock is at most 172,800 seconds from universal time. So what has its nominal second this much earlier than another
-/// comes earlier, whatever clocks the two are read from.
-const SURELY_EARLIER: i64 = 345_601;
+/// What has its nominal second this much earlier than another comes earlier, whatever clocks the two are read from.
+const SURELY_EARLIER: i64 = 2 * MOST_SHIFT + 1;
 
 /// The instant of an UNTIL while that save is in force.
 fn until_with(until: &Until, stdoff: i64, save: i64) -> i64
@@ -36,7 +36,7 @@ fn until_with(until: &Until, stdoff: i64, save: i64) -> i64
 
 /// The nominal second up to which occurrences come before the UNTIL for sure.
 fn sure_second(until: &Until) -> i64
-    ensures value { (result +ℤ pos 345_601) ≡ nominal_second until.now.year until.now.moment }
+    ensures value { (result +ℤ SURELY_EARLIER) ≡ nominal_second until.now.year until.now.moment }
     ensures in_reach { IsInReach result }
     ensures next_in_reach { IsInReach (result +ℤ pos 1) }
 {

@@ -20,6 +20,7 @@ use Rattle.tz_expand.specs.Zone.{expansion_of}
 use Rattle.tz_expand.specs.Stretch.{IsStretch, meets, ranges_between}
 use Rattle.tz_expand.proofs.StretchLemmas.{between_instants}
 use Rattle.tz_tzif.specs.declared.local_type.LocalType.{LocalType}
+use Rattle.tz_tzif.specs.declared.types.TheConstants.{MOST_TYPES}
 use Rattle.tz_tzif.specs.Types.{HasNearOffset, type_of, same_type, are_alike, merged, transitions_after, distinct, types_of}
 use Rattle.tz_tzif.specs.Designations.{designations_of}
 use Rattle.tz_tzif.specs.File.{file_of, spelling}
@@ -53,7 +54,7 @@ begin_fits zone a b range has =
     let inside = covers_each first_instant end_of_time (expansion_of zone) there.0 range (zone_covers zone) there.1 in
     fits_time range.begin inside.0 (omega (arith, ints, inside.1, inside.2))
 
-pub stretch_means : (zone : CompiledZone) (a b : ℤ) (file : List ℕ) → IsStretch a b → length (types_of (merged (ranges_between zone a b))) ≤ 256 → length (transitions_after a (merged (ranges_between zone a b))) < 2 ^ 32 → All (IsText 0 32) (designations_of (types_of (merged (ranges_between zone a b)))) → file ≡ spelling a (ranges_between zone a b) → (t : ℤ) (range : SysInfo) → a ≤ℤ t → t <ℤ b → range_at (expansion_of zone) t ≡ Some range → (local_type : LocalType) → IsMeaning file t local_type ↔ (local_type ≡ type_of range)
+pub stretch_means : (zone : CompiledZone) (a b : ℤ) (file : List ℕ) → IsStretch a b → length (types_of (merged (ranges_between zone a b))) ≤ MOST_TYPES → length (transitions_after a (merged (ranges_between zone a b))) < 2 ^ 32 → All (IsText 0 32) (designations_of (types_of (merged (ranges_between zone a b)))) → file ≡ spelling a (ranges_between zone a b) → (t : ℤ) (range : SysInfo) → a ≤ℤ t → t <ℤ b → range_at (expansion_of zone) t ≡ Some range → (local_type : LocalType) → IsMeaning file t local_type ↔ (local_type ≡ type_of range)
 stretch_means zone a b file stretch few many texts spelled t range low high found =
     let ranges = ranges_between zone a b in
     let met : Meeting a b (expansion_of zone) = meeting a b first_instant end_of_time (expansion_of zone) (zone_covers zone) stretch.begins (omega (arith, ints, stretch.ordered, stretch.ends)) stretch.ordered in

@@ -3,11 +3,12 @@ use Rattle.std.proofs.Common.{◌≡◌, ℕ, ◌+◌, ◌<◌, refl, sym, ap, �
 use Rattle.std.specs.Prelude.{nat_lt}
 use Rattle.std.proofs.lemmas.List.{map_more, take-append-drop, map-append, drop_more}
 use Rattle.tz_specs.proofs.Tests.{by_test}
+use Rattle.tz_types.specs.Reason.{HasReason}
 use Rattle.tz_tzif.specs.declared.local_type.LocalType.{LocalType}
 use Rattle.tz_tzif.specs.declared.tzif_error.TzifError.{TzifError}
 use Rattle.tz_tzif.specs.declared.tzif_error.TzifError.TheVariants as errors
 use Rattle.tz_tzif.specs.Designations.{index_in, indices_in}
-use Rattle.tz_tzif.specs.Refusal.{first_far, TellsFar}
+use Rattle.tz_tzif.specs.Refusal.{first_far, file_refusal, TellsFar}
 
 none-append : (xs ys : List ℕ) → first_far xs ≡ None → first_far (xs ++ ys) ≡ first_far ys
 none-append [] ys none = refl
@@ -28,7 +29,7 @@ far-from xs ys x far at before here =
     ∙ by_test (nat_lt 255 x) (λ e. let it : Some x ≡ Some at = rw e at here in rw e it)
     (λ e. let clash : None ≡ Some at = rw e at here in cc)
 
-pub told-more : (designations : List (List ℕ)) (types : List LocalType) (place : ℕ) (local_type : LocalType) (error : TzifError) → place < length types → local_type ≡ get_or types place local_type → first_far (indices_in designations (take place types)) ≡ None → TellsFar error (first_far (index_in designations local_type.designation ∷ [])) → TellsFar error (first_far (indices_in designations types))
+pub told-more : (designations : List (List ℕ)) (types : List LocalType) (place : ℕ) (local_type : LocalType) (error : TzifError) → place < length types → local_type ≡ get_or types place local_type → first_far (indices_in designations (take place types)) ≡ None → HasReason (TellsFar (first_far (index_in designations local_type.designation ∷ []))) (file_refusal error) → HasReason (TellsFar (first_far (indices_in designations types))) (file_refusal error)
 told-more designations types place local_type errors.NoMemory within is before told = tt
 told-more designations types place local_type (errors.Types count) within is before told = told
 told-more designations types place local_type (errors.Designations at) within is before told =

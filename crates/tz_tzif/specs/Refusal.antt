@@ -1,5 +1,5 @@
--- Indices of designations that no octet holds, and how they are told.
-use Rattle.std.specs.Prelude.{◌≡◌, ℕ, List, nat_lt, Option, Some}
+-- Why a file isn't written, and indices of designations that no octet holds.
+use Rattle.std.specs.Prelude.{◌≡◌, ℕ, List, nat_lt, Option, Some, None}
 use Rattle.std.specs.List.{find}
 use Rattle.tz_tzif.specs.declared.tzif_error.TzifError.{TzifError}
 use Rattle.tz_tzif.specs.declared.tzif_error.TzifError.TheVariants as errors
@@ -8,8 +8,12 @@ use Rattle.tz_tzif.specs.declared.tzif_error.TzifError.TheVariants as errors
 abbrev pub first_far : List ℕ → Option ℕ
 first_far indices = find (nat_lt 255) indices
 
--- the error tells the first such index, or memory ran out
-abbrev pub TellsFar : TzifError → Option ℕ → Type 0
-TellsFar (errors.Designations at) far = far ≡ Some at
-TellsFar (errors.Types count) far = ⊥
-TellsFar errors.NoMemory far = Unit {0}
+-- the error as a reason, and none for want of memory
+abbrev pub file_refusal : TzifError → Option TzifError
+file_refusal errors.NoMemory = None
+file_refusal error = Some error
+
+-- the error tells the first index that is above 255
+abbrev pub TellsFar : Option ℕ → TzifError → Type 0
+TellsFar far (errors.Designations at) = far ≡ Some at
+TellsFar far error = ⊥

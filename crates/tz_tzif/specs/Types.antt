@@ -6,6 +6,7 @@ use Rattle.std.specs.Bool.{beq}
 use Rattle.std.specs.Str.{bytes_eq}
 use Rattle.jiff_core.specs.Calendar.{IsWithin}
 use Rattle.tz_types.specs.declared.range.SysInfo.{SysInfo}
+use Rattle.tz_tzif.specs.declared.types.TheConstants.{MOST_TYPES}
 use Rattle.tz_tzif.specs.declared.local_type.LocalType.{LocalType}
 
 -- the type of a range: its offset, whether it has a save, and its abbreviation
@@ -50,7 +51,7 @@ types_of ranges = distinct same_type (map type_of ranges)
 
 -- there are so few that their numbers are octets
 abbrev pub AreFew : {X : Type 0} → List X → Type 0
-AreFew xs = length xs ≤ 256
+AreFew xs = length xs ≤ MOST_TYPES
 
 -- the number of a type
 abbrev pub number_in : List LocalType → LocalType → ℕ

@@ -3,6 +3,7 @@ ghost use Rattle.std.specs.Prelude.{◌≡◌, ◌↔◌, ◌<◌, ◌^◌, ◌+
 ghost use Rattle.std.specs.List.{All};
 ghost use Rattle.tz_types.specs.declared.range.SysInfo.{SysInfo};
 ghost use Rattle.tz_types.specs.Text.{IsText};
+ghost use Rattle.tz_types.specs.Reason.{HasReason};
 ghost use Rattle.tz_specs.specs.Expansion.{range_at};
 ghost use Rattle.tz_expand.specs.Zone.{expansion_of};
 ghost use Rattle.tz_expand.specs.Stretch.{IsStretch, ranges_between};
@@ -10,22 +11,19 @@ ghost use Rattle.tz_tzif.specs.declared.local_type.LocalType.{LocalType};
 ghost use Rattle.tz_tzif.specs.Types.{type_of, HasNearOffset, merged, AreFew, types_of, transitions_after};
 ghost use Rattle.tz_tzif.specs.Designations.{designations_of, designation_octets, indices_in};
 ghost use Rattle.tz_tzif.specs.File.{data_octets, file_of, spelling};
-ghost use Rattle.tz_tzif.specs.Refusal.{first_far, TellsFar};
+ghost use Rattle.tz_tzif.specs.Refusal.{first_far, file_refusal, TellsFar};
 ghost use Rattle.tz_tzif.specs.Answer.{Answers};
 ghost use Rattle.tz_tzif.specs.Meaning.{IsMeaning};
 
 use crate::designations::{designations_of, octets_of};
 use crate::octets::{put_first_block, put_header, put_numbers, put_times, put_types};
-use crate::types::{keep_after, merge, types_of};
+use crate::types::{MOST_TYPES, keep_after, merge, types_of};
 use crate::{LocalType, TzifError};
 use std::alloc::Global;
 use std::marker::Brand;
 use std::sync::ledger::{Blank, Ledger};
 use tz_expand::{CompiledZone, expand_between};
 use tz_types::{Abbrev, NoMemory, Steps, SysInfo};
-
-/// The most types whose numbers are octets.
-const MOST_TYPES: usize = 256;
 
 /// The footer, with no rule between its newlines.
 const FOOTER: &[u8] = b"\n\n";
@@ -69,7 +67,7 @@ fn put_data(
     requires octets { octets.now ≡ designation_octets designations.now }
     ensures put { OnOk result (file.new.items ≡ file.old.items ++ data_octets transitions.now types.now designations.now) }
     ensures held { OnOk result (first_far (indices_in designations.now types.now) ≡ None) }
-    ensures refused { IfErr result (λ error. TellsFar error (first_far (indices_in designations.now types.now))) }
+    ensures refused { IfErr result (λ error. HasReason (TellsFar (first_far (indices_in designations.now types.now))) (file_refusal error)) }
 {
     put_times(file, transitions)?;
     put_numbers(file, transitions, types)?;
@@ -100,7 +98,7 @@ fn file_of(
     ensures counted { OnOk result (length transitions.now < 2 ^ 32) }
     ensures texts { OnOk result (All (IsText 0 32) designations.now) }
     ensures held { OnOk result (first_far (indices_in designations.now types.now) ≡ None) }
-    ensures refused { IfErr result (λ error. TellsFar error (first_far (indices_in designations.now types.now))) }
+    ensures refused { IfErr result (λ error. HasReason (TellsFar (first_far (indices_in designations.now types.now))) (file_refusal error)) }
 {
     let octets = octets_of(alloc, designations)?;
     let transition_count = count_of(transitions.len())?;

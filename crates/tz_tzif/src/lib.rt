@@ -4,7 +4,12 @@
 //! and footer rule. Its block of version 1 is empty but for the one type that each block has. The crate stands on
 //! `expand_between` of `tz_expand`.
 //!
-//! Of New York in 2024 the file has two transitions, 1710054000 to EDT and 1730613600 back to EST, and 135 octets.
+//! ```rust
+//! // New York in 2024: the file has two transitions, 1710054000 to EDT and 1730613600 back to EST
+//! let file = tzif(alloc, &zone, 1_704_067_200, 1_735_689_600)?;
+//! assert_eq!(rt; &file[..5], b"TZif2".as_slice());
+//! assert_eq!(rt; file.len(), 135);
+//! ```
 #![tactic(auto)]
 
 mod designations;

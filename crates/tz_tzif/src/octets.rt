@@ -2,10 +2,11 @@
 //! highest octet first, signed ones in two's complement.
 ghost use Rattle.std.specs.Prelude.{◌≡◌, [], ◌∷◌, ◌++◌, map, None, IfErr, OnOk, if◌then◌else◌};
 ghost use Rattle.std.specs.List.{All, flat_map};
+ghost use Rattle.tz_types.specs.Reason.{HasReason};
 ghost use Rattle.tz_tzif.specs.Types.{type_of, HasNearOffset, AreFew, number_in};
 ghost use Rattle.tz_tzif.specs.Designations.{index_in, indices_in};
 ghost use Rattle.tz_tzif.specs.File.{header, first_block, time_octets, offset_octets, type_octets};
-ghost use Rattle.tz_tzif.specs.Refusal.{first_far, TellsFar};
+ghost use Rattle.tz_tzif.specs.Refusal.{first_far, file_refusal, TellsFar};
 
 use crate::designations::index_in;
 use crate::types::number_in;
@@ -78,7 +79,7 @@ fn put_type(
     requires near { HasNearOffset local_type.now }
     ensures put { OnOk result (file.new.items ≡ file.old.items ++ type_octets designations.now local_type.now) }
     ensures held { OnOk result (first_far (index_in designations.now local_type.now.designation ∷ []) ≡ None) }
-    ensures refused { IfErr result (λ error. TellsFar error (first_far (index_in designations.now local_type.now.designation ∷ []))) }
+    ensures refused { IfErr result (λ error. HasReason (TellsFar (first_far (index_in designations.now local_type.now.designation ∷ []))) (file_refusal error)) }
 {
     let index = index_in(designations, &local_type.designation);
     let Ok(octet) = u8::try_from(index) else {
@@ -110,7 +111,7 @@ pub fn put_types(
     requires near { All HasNearOffset types.now }
     ensures put { OnOk result (file.new.items ≡ file.old.items ++ flat_map (type_octets designations.now) types.now) }
     ensures held { OnOk result (first_far (indices_in designations.now types.now) ≡ None) }
-    ensures refused { IfErr result (λ error. TellsFar error (first_far (indices_in designations.now types.now))) }
+    ensures refused { IfErr result (λ error. HasReason (TellsFar (first_far (indices_in designations.now types.now))) (file_refusal error)) }
 {
     for local_type in types {
         put_type(file, local_type, designations)?;

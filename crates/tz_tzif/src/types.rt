@@ -1,11 +1,15 @@
 //! The types of ranges, numbered by their places (RFC 8536, section 3.2).
 ghost use Rattle.std.specs.Prelude.{◌≡◌, ◌<◌, [], ◌∷◌, ◌++◌, IfOk, OnOk, if◌then◌else◌};
 ghost use Rattle.std.specs.List.{list_any};
+ghost use Rattle.tz_tzif.specs.declared.types.TheConstants.{MOST_TYPES};
 ghost use Rattle.tz_tzif.specs.Types.{type_of, same_type, are_alike, merged, transitions_after, AreFew, types_of, number_in};
 
 use crate::LocalType;
 use std::alloc::Global;
 use tz_types::{NoMemory, SysInfo};
+
+/// The most types whose numbers are octets.
+pub const MOST_TYPES: usize = 256;
 
 /// Whether two ranges are of the same type.
 fn are_alike(one: &SysInfo, other: &SysInfo) -> bool
@@ -53,7 +57,7 @@ pub fn types_of(alloc: Global, ranges: &[SysInfo]) -> Result<Vec<LocalType>, NoM
 /// The number of a type.
 pub fn number_in(types: &[LocalType], local_type: &LocalType) -> usize
     ensures value { result ≡ number_in types.now local_type.now }
-    ensures bound { AreFew types.now → result < 256 }
+    ensures bound { AreFew types.now → result < MOST_TYPES }
 {
     types
         .iter()

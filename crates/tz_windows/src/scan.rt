@@ -4,11 +4,15 @@ ghost use Rattle.jiff_core.specs.Calendar.{IsWithin};
 ghost use Rattle.tz_types.specs.declared.range.SysInfo.{SysInfo};
 ghost use Rattle.tz_specs.specs.Expansion.{range_at};
 ghost use Rattle.tz_expand.specs.Zone.{expansion_of};
+ghost use Rattle.tz_windows.specs.declared.scan.TheConstants.{MOST_LOOKS};
 
 use crate::ZoneRef;
 use std::alloc::Global;
 use std::sync::ledger::Ledger;
 use tz_types::{Steps, SysInfo};
+
+/// The most instants at which one scan looks.
+pub const MOST_LOOKS: u32 = 65_536;
 
 /// What a scan tells of the instants at which it looked.
 #[derive(Clone, Copy, Debug, PartialEq, Eq, Hash)]
@@ -30,7 +34,7 @@ struct Seen {
 
 /// The instant at a place of a scan.
 fn instant_at(from: i64, step: u32, place: u32) -> i64
-    requires few { place ≤ 65_536 }
+    requires few { place ≤ MOST_LOOKS }
     requires near { IsWithin (10 ^ 15) from }
     ensures { result ≡ from +ℤ pos (place * step) }
 {
@@ -68,7 +72,7 @@ impl Seen {
     /// What is seen with the range of one more instant.
     fn and(self, range: &SysInfo) -> Self
         requires so_far { IsSoFar self }
-        requires few { self.scan.inside < 65_536 }
+        requires few { self.scan.inside < MOST_LOOKS }
         requires near { IsWithin 172_800 range.now.offset }
         ensures so_far { IsSoFar result }
         ensures inside { result.scan.inside ≡ self.scan.inside + 1 }
@@ -99,7 +103,7 @@ impl<'v> ZoneRef<'v> {
         steps: &mut Steps<L>,
     ) -> Seen
         requires so_far { IsSoFar seen }
-        requires few { seen.scan.inside < 65_536 }
+        requires few { seen.scan.inside < MOST_LOOKS }
         ensures so_far { IsSoFar result }
         ensures inside { result.scan.inside ≤ seen.scan.inside + 1 }
         ensures later { (later : List ℤ) → let found = range_at (expansion_of self.old) in scan_from result (filter_map found later) ≡ scan_from seen (filter_map found (t ∷ later)) }
@@ -122,7 +126,7 @@ impl<'v> ZoneRef<'v> {
         steps: &mut Steps<L>,
     ) -> Scan
         requires apart { 1 ≤ step }
-        requires few { count ≤ 65_536 }
+        requires few { count ≤ MOST_LOOKS }
         requires near { IsWithin (10 ^ 15) from }
         ensures scan { result ≡ scan_of self.old from step count }
         ensures zone { self.new ≡ self.old }

@@ -1,4 +1,5 @@
 use Rattle.std.proofs.Common.{◌≡◌, ◌≤◌, length, rules, arith}
+use Rattle.tz_tzif.specs.declared.types.TheConstants.{MOST_TYPES}
 use Rattle.tz_tzif.specs.Types.{merged, types_of}
 use Rattle.tz_tzif.specs.Designations.{designations_of}
 use Rattle.tz_tzif.proofs.DistinctLemmas.{designations_few}
@@ -9,8 +10,8 @@ pub file_of-requires-clause-few : goal.file_of-requires-clause-few
 file_of-requires-clause-few c =
     let types = c.in_ok-types.types.items in
     let is : c.as_slice-5.result.now ≡ designations_of types = search rules in
-    let few : length types ≤ 256 = omega arith in
-    rw is (designations_few types 256 few)
+    let few : length types ≤ MOST_TYPES = omega arith in
+    rw is (designations_few types MOST_TYPES few)
 
 pub file_of-requires-clause-near : goal.file_of-requires-clause-near
 file_of-requires-clause-near c =

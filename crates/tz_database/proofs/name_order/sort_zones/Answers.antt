@@ -1,0 +1,13 @@
+use Rattle.std.proofs.Common.{rules, of_calls}
+use Rattle.std.specs.Ordering.{is_lt}
+use Rattle.std.proofs.lemmas.Fn.{always_returns_same}
+use Rattle.std.proofs.lemmas.Cmp.{nat_list_cmp_total}
+use Rattle.std.proofs.lemmas.List.Sorted.{ranks_by}
+use Rattle.tz_types.specs.declared.zone.Zone.{Zone}
+use Rattle.tz_database.proofs.NameOrder.{compared}
+use Rattle.tz_database.proofs.SortedNames.{ascends_sorted}
+use Rattle.tz_database.proofs.name_order.sort_zones.Goals as goal
+
+pub returns-clause-ascend : goal.returns-clause-ascend
+returns-clause-ascend c =
+    ascends_sorted (λ (zone : Zone). zone.name) c.args.zones.now.items _ c.requires c.sort_unstable_by.ensures.permutation (c.sort_unstable_by.ensures.sorted (λ (zone other : Zone). is_lt (compared zone.name other.name)) (ranks_by nat_list_cmp_total (λ (zone : Zone). zone.name)) (always_returns_same _ _ _ (λ a r f k. search (rules, of_calls))))

@@ -1,0 +1,11 @@
+use Rattle.std.proofs.Common.{◌≡◌, map, drop}
+use Rattle.std.specs.List.{filter_map}
+use Rattle.tz_specs.specs.Whole.{missing_continuation}
+use Rattle.tz_specs.specs.Written.{written_zone}
+use Rattle.tz_database.specs.LeastFault.{told_with}
+use Rattle.tz_database.proofs.unfinished_zone.tell_unfinished_zones.Given as goal
+
+-- the least, when the faults of the zones that are left are told too
+abbrev pub invariant-loop-zone : goal.invariant-loop-zone
+invariant-loop-zone l =
+    told_with l.told.least (filter_map missing_continuation (map (written_zone l.parts.names) (drop l.zone-index l.parts.zones))) ≡ told_with l.fn.told.least (filter_map missing_continuation (map (written_zone l.parts.names) l.parts.zones))

@@ -1,0 +1,14 @@
+pub mod LeastFault
+pub mod NamePlace
+pub mod FirstLine
+pub mod Continued
+pub mod NameMap
+pub mod Parts
+pub mod LineOrder
+pub mod Built
+pub mod Reach
+pub mod SetPlace
+pub mod ZonePlace
+pub mod Settled
+pub mod Stops
+pub mod Messages
