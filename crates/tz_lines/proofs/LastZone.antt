@@ -14,7 +14,7 @@ use Rattle.tz_types.specs.declared.zone.Zone.{Zone}
 use Rattle.tz_types.specs.declared.link.Link.{Link}
 use Rattle.tz_specs.specs.Written.{WrittenZone, written_until, written_line, written_zone, written_link}
 use Rattle.tz_specs.specs.Contents.{Contents, last_lines, wants_line, with_line}
-use Rattle.tz_rules.specs.Continued.{are_continued}
+use Rattle.tz_database.specs.Continued.{are_continued}
 use Rattle.tz_lines.specs.declared.rule_sets.RuleSets.{RuleSets}
 use Rattle.tz_lines.specs.Gathered.{sets_gathered}
 use Rattle.tz_lines.specs.LastZone.{zone_names, zone_lines, with_last_line, HasRoom}

@@ -26,10 +26,10 @@ use Rattle.tz_specs.proofs.ListLemmas.{none_first, none_second}
 use Rattle.tz_specs.proofs.LeapTextLemmas.{LinesRise, leap_line, expiry_line, text_good}
 use Rattle.tz_lines.specs.declared.leap_contents.WrittenLeap.{WrittenLeap}
 use Rattle.tz_lines.specs.declared.leap_contents.WrittenExpiry.{WrittenExpiry}
-use Rattle.tz_rules.specs.LeastFault.{told_with, IsLeastOf}
+use Rattle.tz_database.specs.LeastFault.{told_with, IsLeastOf}
 use Rattle.tz_lines.specs.LeapContents.{entry_meant, leap_meant, expiry_meant, leap_cmp, AreGiven, IsTableOf}
 use Rattle.tz_lines.specs.LeapFaults.{repeats_after, repeats, later_expiries, last_date, is_early, early_expiries}
-use Rattle.tz_rules.proofs.Leasts.{least_told}
+use Rattle.tz_database.proofs.Leasts.{least_told}
 
 -- ---- each of them before the next
 

@@ -17,7 +17,7 @@ use Rattle.tz_specs.specs.Value.{is_exactly}
 use Rattle.tz_specs.specs.Written.{WrittenRule, WrittenSet, written_rule, written_set, set_names}
 use Rattle.tz_specs.specs.Contents.{is_set_named, with_rule, is_full_set}
 use Rattle.tz_specs.proofs.AscendingLemmas.{never_before_itself, same_ascending}
-use Rattle.tz_rules.proofs.NameOrder.{before_trans, before_other}
+use Rattle.tz_database.proofs.NameOrder.{before_trans, before_other}
 use Rattle.tz_lines.specs.NameIndex.{name_position}
 use Rattle.tz_lines.specs.RuleSets.{with_set, in_name_order}
 use Rattle.tz_lines.specs.Following.{are_before}

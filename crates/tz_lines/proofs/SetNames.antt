@@ -17,8 +17,8 @@ use Rattle.tz_types.specs.declared.zone_line.ZoneLine.{ZoneLine}
 use Rattle.tz_types.specs.declared.zone.Zone.{Zone}
 use Rattle.tz_specs.specs.Value.{is_exactly}
 use Rattle.tz_specs.specs.Written.{written_rules, written_line, written_zone}
-use Rattle.tz_rules.specs.Continued.{is_named_by}
-use Rattle.tz_rules.proofs.FirstLines.{same_name}
+use Rattle.tz_database.specs.Continued.{is_named_by}
+use Rattle.tz_database.proofs.FirstLines.{same_name}
 use Rattle.tz_lines.specs.NameIndex.{name_position}
 use Rattle.tz_lines.specs.SetNames.{with_set_name, AreBegun}
 use Rattle.tz_lines.proofs.NameIndex.{not_there}

@@ -2,8 +2,8 @@
 use Rattle.std.specs.Prelude.{ℕ, List}
 use Rattle.tz_types.specs.declared.source.Source.{Source}
 use Rattle.tz_specs.specs.Reads.{RefusesFiles, Refuses}
-use Rattle.tz_rules.specs.declared.error.BuildError.{BuildError}
-use Rattle.tz_rules.specs.declared.error.BuildError.TheVariants as build_errors
+use Rattle.tz_database.specs.declared.error.BuildError.{BuildError}
+use Rattle.tz_database.specs.declared.error.BuildError.TheVariants as build_errors
 use Rattle.tz_lines.specs.declared.error.LineError.{LineError}
 use Rattle.tz_lines.specs.declared.error.LineError.TheVariants as line_errors
 use Rattle.tz_lines.specs.declared.error.ReadError.{ReadError}

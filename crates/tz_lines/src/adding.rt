@@ -5,7 +5,7 @@ ghost use Rattle.tz_specs.specs.Written.{written_rule, written_line, RuleRecord,
 ghost use Rattle.tz_specs.specs.Contents.{no_contents, at_end_of_file, with_record, with_said};
 ghost use Rattle.tz_records.specs.Entry.{written_entry, written_entry_line};
 ghost use Rattle.tz_records.specs.Counts.{exceeds, exceeds_said};
-ghost use Rattle.tz_rules.specs.Continued.{is_named_by};
+ghost use Rattle.tz_database.specs.Continued.{is_named_by};
 ghost use Rattle.tz_lines.specs.Gathered.{contents_gathered};
 ghost use Rattle.tz_lines.specs.Following.{is_in_place};
 ghost use Rattle.tz_lines.specs.AddingOutcome.{MeansLimit};

@@ -2,7 +2,7 @@
 ghost use Rattle.std.specs.Prelude.{◌≤◌, length, IsTrue};
 ghost use Rattle.std.specs.List.{list_all};
 ghost use Rattle.tz_types.specs.declared.limit.TheConstants.{MOST_ZONES, MOST_LINKS};
-ghost use Rattle.tz_rules.specs.Continued.{are_continued, is_named_by};
+ghost use Rattle.tz_database.specs.Continued.{are_continued, is_named_by};
 
 use crate::rule_sets::RuleSets;
 use crate::set_names::SetNames;

@@ -8,7 +8,7 @@ ghost use Rattle.tz_lines.specs.Refusal.{line_error};
 
 use std::error::Error;
 use std::fmt;
-use tz_rules::BuildError;
+use tz_database::BuildError;
 use tz_types::{Cause, Fault, LineFault, NoMemory};
 
 /// Why a source or a leap text wasn't read.

@@ -3,10 +3,10 @@ ghost use Rattle.std.specs.Prelude.{◌≡◌, ◌++◌, None};
 ghost use Rattle.std.specs.Option.{option_to_list};
 ghost use Rattle.tz_specs.specs.LeapText.{leap_fault_where};
 ghost use Rattle.tz_lines.specs.LeapFaults.{repeats, repeats_after, later_expiries, early_expiries, last_date, is_early};
-ghost use Rattle.tz_rules.specs.LeastFault.{told_with};
+ghost use Rattle.tz_database.specs.LeastFault.{told_with};
 
 use crate::leap_contents::{WrittenExpiry, WrittenLeap};
-use tz_rules::LeastFault;
+use tz_database::LeastFault;
 use tz_types::{Cause, LineFault};
 
 /// Tells a fault where the line has it.

@@ -1,10 +1,10 @@
 //! What all lines of a source gave, as a database is built of it.
 ghost use Rattle.std.specs.Prelude.{◌≡◌, false};
-ghost use Rattle.tz_rules.specs.Parts.{contents_given};
+ghost use Rattle.tz_database.specs.Parts.{contents_given};
 ghost use Rattle.tz_lines.specs.Gathered.{contents_gathered};
 
 use crate::contents::Gathered;
-use tz_rules::Parts;
+use tz_database::Parts;
 use tz_types::VersionText;
 
 impl Gathered {

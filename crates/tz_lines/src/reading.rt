@@ -10,7 +10,7 @@ use crate::gathering::gather;
 use crate::places::place_in;
 use crate::version::version;
 use std::alloc::Global;
-use tz_rules::build;
+use tz_database::build;
 use tz_types::{Db, LineFault, Source};
 
 /// The database of a source, or its fault where the lines of all files are counted through.

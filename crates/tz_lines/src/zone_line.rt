@@ -4,7 +4,7 @@ ghost use Rattle.tz_types.specs.Saves.{is_fixed_save};
 ghost use Rattle.tz_specs.specs.Written.{written_rules, written_line};
 ghost use Rattle.tz_records.specs.Entry.{written_entry_rules, written_entry_line};
 ghost use Rattle.tz_records.specs.FixedSave.{is_entry_save};
-ghost use Rattle.tz_rules.specs.Continued.{is_named_by};
+ghost use Rattle.tz_database.specs.Continued.{is_named_by};
 ghost use Rattle.tz_lines.specs.SetNames.{AreBegun};
 
 use crate::set_names::SetNames;

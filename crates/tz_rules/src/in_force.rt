@@ -2,6 +2,7 @@
 //! daylight time, and the letters that stand for `%s`.
 ghost use Rattle.std.specs.Prelude.{◌≡◌, ℤ, [], pos, ◌+ℤ◌, false};
 ghost use Rattle.jiff_core.specs.Calendar.{IsWithin};
+ghost use Rattle.tz_types.specs.declared.limit.TheConstants.{LONGEST_LETTERS};
 ghost use Rattle.tz_types.specs.Amount.{IsShift};
 ghost use Rattle.tz_types.specs.Text.{IsText};
 ghost use Rattle.tz_specs.specs.State.{put_in_force};
@@ -18,6 +19,7 @@ pub struct InForce<'a> {
 }
 
 impl<'a> Model for InForce<'a> {
+    ghost use Rattle.tz_types.specs.declared.limit.TheConstants.{LONGEST_LETTERS};
     ghost use Rattle.tz_types.specs.Amount.{IsShift};
     ghost use Rattle.tz_types.specs.Text.{IsText};
     ghost use Rattle.tz_specs.specs.State.{InForce as Kept};
@@ -26,7 +28,7 @@ impl<'a> Model for InForce<'a> {
 
     ghost view = { λ s. record { save = s.save; daylight = s.daylight; letters = s.letters.now } };
 
-    ghost invariant = { λ s. IsShift s.save × IsText 0 8 s.letters.now };
+    ghost invariant = { λ s. IsShift s.save × IsText 0 LONGEST_LETTERS s.letters.now };
 }
 
 impl<'a> InForce<'a> {
@@ -82,7 +84,7 @@ impl<'a> InForce<'a> {
     /// The letters that stand for `%s`.
     pub fn letters(&self) -> &'a [u8]
         ensures letters { result.now ≡ self.now.letters }
-        ensures text { IsText 0 8 result.now }
+        ensures text { IsText 0 LONGEST_LETTERS result.now }
     {
         self.letters
     }

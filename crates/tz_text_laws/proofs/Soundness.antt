@@ -13,9 +13,9 @@ use Rattle.tz_specs.specs.Written.{WrittenZone, set_names, written_zone}
 use Rattle.tz_specs.specs.Whole.{missing_continuation, late_lines}
 use Rattle.tz_specs.specs.Sound.{is_sound_zone, is_sound}
 use Rattle.tz_specs.specs.Reads.{Reads}
-use Rattle.tz_rules.proofs.ZoneTime.{goes_on, all_go_on, zones_sound}
-use Rattle.tz_rules.proofs.BuiltDatabases.{all_permuted, places_in}
-use Rattle.tz_rules.proofs.Faultless.{none_first, none_second, none_of_first, none_of_rest, faultless}
+use Rattle.tz_database.proofs.ZoneTime.{goes_on, all_go_on, zones_sound}
+use Rattle.tz_database.proofs.BuiltDatabases.{all_permuted, places_in}
+use Rattle.tz_database.proofs.Faultless.{none_first, none_second, none_of_first, none_of_rest, faultless}
 use Rattle.tz_text_laws.proofs.Continued.{is_whole, are_whole, zones_whole}
 
 -- nothing is told of any element, in whatever order they stand

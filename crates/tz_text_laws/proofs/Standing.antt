@@ -13,7 +13,7 @@ use Rattle.tz_specs.specs.Contents.{Contents}
 use Rattle.tz_specs.specs.Whole.{zone_of_link}
 use Rattle.tz_specs.specs.Reads.{Reads}
 use Rattle.tz_specs.proofs.AscendingLemmas.{first_or_later, never_in_none}
-use Rattle.tz_rules.proofs.PlacesOfNames.{name_there}
+use Rattle.tz_database.proofs.PlacesOfNames.{name_there}
 use Rattle.tz_text_laws.specs.LeadsTo.{LeadsTo}
 use Rattle.tz_text_laws.proofs.Choices.{bind_some, map_some}
 use Rattle.tz_text_laws.proofs.Reaching.{leads_to}

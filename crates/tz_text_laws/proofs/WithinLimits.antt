@@ -12,7 +12,7 @@ use Rattle.tz_types.specs.declared.database.Db.{Db}
 use Rattle.tz_specs.specs.Line.{lines_of}
 use Rattle.tz_specs.specs.Written.{WrittenLine, set_names, written_line, written_zone}
 use Rattle.tz_specs.specs.Reads.{without_white_end, is_version, version_of_line, version_of_text, version_of, Reads}
-use Rattle.tz_rules.proofs.ZoneTime.{goes_on}
+use Rattle.tz_database.proofs.ZoneTime.{goes_on}
 use Rattle.tz_text_laws.specs.Limits.{IsVersionGiven, has_lines}
 use Rattle.tz_text_laws.proofs.Continued.{is_whole, are_whole}
 use Rattle.tz_text_laws.proofs.Soundness.{own_whole}

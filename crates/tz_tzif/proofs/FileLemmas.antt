@@ -6,6 +6,7 @@ use Rattle.std.specs.List.{All}
 use Rattle.std.specs.Str.{bytes_eq}
 use Rattle.std.proofs.lemmas.Int.{ints}
 use Rattle.std.proofs.lemmas.Slice.Eq.{bytes_eq-Decides}
+use Rattle.tz_types.specs.declared.limit.TheConstants.{LONGEST_ABBREVIATION}
 use Rattle.tz_types.specs.Text.{IsText}
 use Rattle.tz_types.specs.declared.range.SysInfo.{SysInfo}
 use Rattle.tz_specs.specs.Expansion.{first_instant, end_of_time, range_at}
@@ -54,7 +55,7 @@ begin_fits zone a b range has =
     let inside = covers_each first_instant end_of_time (expansion_of zone) there.0 range (zone_covers zone) there.1 in
     fits_time range.begin inside.0 (omega (arith, ints, inside.1, inside.2))
 
-pub stretch_means : (zone : CompiledZone) (a b : ℤ) (file : List ℕ) → IsStretch a b → length (types_of (merged (ranges_between zone a b))) ≤ MOST_TYPES → length (transitions_after a (merged (ranges_between zone a b))) < 2 ^ 32 → All (IsText 0 32) (designations_of (types_of (merged (ranges_between zone a b)))) → file ≡ spelling a (ranges_between zone a b) → (t : ℤ) (range : SysInfo) → a ≤ℤ t → t <ℤ b → range_at (expansion_of zone) t ≡ Some range → (local_type : LocalType) → IsMeaning file t local_type ↔ (local_type ≡ type_of range)
+pub stretch_means : (zone : CompiledZone) (a b : ℤ) (file : List ℕ) → IsStretch a b → length (types_of (merged (ranges_between zone a b))) ≤ MOST_TYPES → length (transitions_after a (merged (ranges_between zone a b))) < 2 ^ 32 → All (IsText 0 LONGEST_ABBREVIATION) (designations_of (types_of (merged (ranges_between zone a b)))) → file ≡ spelling a (ranges_between zone a b) → (t : ℤ) (range : SysInfo) → a ≤ℤ t → t <ℤ b → range_at (expansion_of zone) t ≡ Some range → (local_type : LocalType) → IsMeaning file t local_type ↔ (local_type ≡ type_of range)
 stretch_means zone a b file stretch few many texts spelled t range low high found =
     let ranges = ranges_between zone a b in
     let met : Meeting a b (expansion_of zone) = meeting a b first_instant end_of_time (expansion_of zone) (zone_covers zone) stretch.begins (omega (arith, ints, stretch.ordered, stretch.ends)) stretch.ordered in
@@ -85,7 +86,7 @@ stretch_means zone a b file stretch few many texts spelled t range low high foun
     let among = In-from_get types number now at in
     let near : HasNearOffset now = All-at_In HasNearOffset types now (types_near ranges (ranges_near zone a b)) among in
     let has : In now.designation designations = In-distinct bytes_eq bytes_eq-Decides (map (λ (x : LocalType). x.designation) types) now.designation (In-map (λ (x : LocalType). x.designation) types now among) in
-    let text : IsText 0 32 now.designation = All-at_In (IsText 0 32) designations now.designation texts has in
+    let text : IsText 0 LONGEST_ABBREVIATION now.designation = All-at_In (IsText 0 LONGEST_ABBREVIATION) designations now.designation texts has in
     type_is file transitions types designations is number now at (fits_offset now.offset near) has text.visible) in
     let rise = times_rise file transitions types designations is (changes_rising first later (covers_rising first.end met.high later met.covers.2)) fits in
     λ local_type. (λ has. one_meaning file t local_type (type_of range) rise has said, λ same. rw same said)

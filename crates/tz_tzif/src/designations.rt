@@ -2,6 +2,7 @@
 ghost use Rattle.std.specs.Prelude.{◌≡◌, ◌≤◌, ◌*◌, [], ◌∷◌, ◌++◌, length, IfOk, OnOk, if◌then◌else◌};
 ghost use Rattle.std.specs.List.{All, list_any};
 ghost use Rattle.std.specs.Str.{bytes_eq};
+ghost use Rattle.tz_types.specs.declared.limit.TheConstants.{LONGEST_ABBREVIATION};
 ghost use Rattle.tz_types.specs.Text.{IsText};
 ghost use Rattle.tz_tzif.specs.Types.{AreFew};
 ghost use Rattle.tz_tzif.specs.Designations.{designations_of, designation_octets, index_in};
@@ -50,7 +51,7 @@ pub fn index_in(designations: &[Abbrev], designation: &Abbrev) -> usize
 /// The designations as octets, one after another.
 pub fn octets_of(alloc: Global, designations: &[Abbrev]) -> Result<Vec<u8>, NoMemory>
     ensures octets { IfOk result (λ octets. octets.items ≡ designation_octets designations.now) }
-    ensures texts { OnOk result (All (IsText 0 32) designations.now) }
+    ensures texts { OnOk result (All (IsText 0 LONGEST_ABBREVIATION) designations.now) }
 {
     let mut octets = Vec::new(alloc);
     for designation in designations {

@@ -1,6 +1,7 @@
 //! Files (RFC 8536, section 3) of the ranges of a stretch of time.
 ghost use Rattle.std.specs.Prelude.{◌≡◌, ◌↔◌, ◌<◌, ◌^◌, ◌++◌, ℤ, ◌≤ℤ◌, ◌<ℤ◌, length, None, Some, IfOk, IfErr, OnOk};
 ghost use Rattle.std.specs.List.{All};
+ghost use Rattle.tz_types.specs.declared.limit.TheConstants.{LONGEST_ABBREVIATION};
 ghost use Rattle.tz_types.specs.declared.range.SysInfo.{SysInfo};
 ghost use Rattle.tz_types.specs.Text.{IsText};
 ghost use Rattle.tz_types.specs.Reason.{HasReason};
@@ -96,7 +97,7 @@ fn file_of(
     requires near { All HasNearOffset types.now }
     ensures file { IfOk result (λ file. file.items ≡ file_of transitions.now types.now designations.now) }
     ensures counted { OnOk result (length transitions.now < 2 ^ 32) }
-    ensures texts { OnOk result (All (IsText 0 32) designations.now) }
+    ensures texts { OnOk result (All (IsText 0 LONGEST_ABBREVIATION) designations.now) }
     ensures held { OnOk result (first_far (indices_in designations.now types.now) ≡ None) }
     ensures refused { IfErr result (λ error. HasReason (TellsFar (first_far (indices_in designations.now types.now))) (file_refusal error)) }
 {
@@ -126,7 +127,7 @@ fn spelling(alloc: Global, mut ranges: Vec<SysInfo>, a: i64) -> Result<Vec<u8>, 
     requires { All (λ range. HasNearOffset (type_of range)) ranges.items }
     ensures answers { Answers a ranges.items result }
     ensures counted { OnOk result (length (transitions_after a (merged ranges.items)) < 2 ^ 32) }
-    ensures texts { OnOk result (All (IsText 0 32) (designations_of (types_of (merged ranges.items)))) }
+    ensures texts { OnOk result (All (IsText 0 LONGEST_ABBREVIATION) (designations_of (types_of (merged ranges.items)))) }
 {
     merge(&mut ranges);
     let types = types_of(alloc, ranges.as_slice())?;

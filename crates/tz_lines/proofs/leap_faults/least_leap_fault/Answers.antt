@@ -1,7 +1,7 @@
 use Rattle.std.proofs.Common.{◌≡◌, ◌++◌, None}
 use Rattle.tz_lines.specs.LeapFaults.{repeats, later_expiries, last_date, early_expiries}
-use Rattle.tz_rules.specs.LeastFault.{told_with}
-use Rattle.tz_rules.proofs.ToldLists.{told_next}
+use Rattle.tz_database.specs.LeastFault.{told_with}
+use Rattle.tz_database.proofs.ToldLists.{told_next}
 use Rattle.tz_lines.proofs.leap_faults.least_leap_fault.Goals as goal
 
 pub returns : goal.returns

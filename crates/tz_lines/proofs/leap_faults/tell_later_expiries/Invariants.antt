@@ -2,7 +2,7 @@ use Rattle.std.proofs.Common.{◌≡◌, map, drop}
 use Rattle.tz_types.specs.declared.cause.Cause.TheVariants as causes
 use Rattle.tz_specs.specs.LeapText.{leap_fault}
 use Rattle.tz_lines.specs.LeapFaults.{later_expiries}
-use Rattle.tz_rules.specs.LeastFault.{told_with}
+use Rattle.tz_database.specs.LeastFault.{told_with}
 use Rattle.tz_lines.proofs.leap_faults.tell_later_expiries.Given as goal
 
 -- the least, when those that are left are told too

@@ -1,6 +1,6 @@
 use Rattle.std.proofs.Common.{◌≡◌, drop}
 use Rattle.tz_lines.specs.LeapFaults.{repeats_after}
-use Rattle.tz_rules.specs.LeastFault.{told_with}
+use Rattle.tz_database.specs.LeastFault.{told_with}
 use Rattle.tz_lines.proofs.leap_faults.tell_repeats_after.Given as goal
 
 -- the least, when those that are left are told too

@@ -2,7 +2,7 @@ use Rattle.std.proofs.Common.{◌≡◌, ◌++◌, Some, None, map, ◌∙◌, s
 use Rattle.tz_specs.specs.LeapText.{first_moment}
 use Rattle.tz_lines.specs.LeapContents.{entry_meant, expiry_meant}
 use Rattle.tz_lines.specs.LeapFaults.{repeats, later_expiries, last_date, early_expiries}
-use Rattle.tz_rules.specs.LeastFault.{told_with}
+use Rattle.tz_database.specs.LeastFault.{told_with}
 use Rattle.tz_lines.proofs.LeapTables.{fault_of_table, table_ascends, table_is_small, table_of_text}
 use Rattle.tz_lines.proofs.leap_reading.table.Goals as goal
 

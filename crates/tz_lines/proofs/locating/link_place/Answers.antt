@@ -1,8 +1,8 @@
 use Rattle.std.proofs.Common.{sym, ap, option_map, Ok, Err, rules, of_calls}
 use Rattle.std.proofs.lemmas.Fn.{always_returns_same}
 use Rattle.tz_types.specs.declared.link.Link.{Link}
-use Rattle.tz_rules.proofs.NameOrder.{searched, compared}
-use Rattle.tz_rules.proofs.NamesFound.{found-find, missing-find}
+use Rattle.tz_database.proofs.NameOrder.{searched, compared}
+use Rattle.tz_database.proofs.NamesFound.{found-find, missing-find}
 use Rattle.tz_lines.proofs.locating.link_place.Goals as goal
 
 pub returns-in-Ok : goal.returns-in-Ok

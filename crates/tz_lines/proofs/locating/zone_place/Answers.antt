@@ -1,8 +1,8 @@
 use Rattle.std.proofs.Common.{sym, Ok, Err, rules, of_calls}
 use Rattle.std.proofs.lemmas.Fn.{always_returns_same}
 use Rattle.tz_types.specs.declared.zone.Zone.{Zone}
-use Rattle.tz_rules.proofs.NameOrder.{searched, compared}
-use Rattle.tz_rules.proofs.NamesFound.{found-position, missing-position}
+use Rattle.tz_database.proofs.NameOrder.{searched, compared}
+use Rattle.tz_database.proofs.NamesFound.{found-position, missing-position}
 use Rattle.tz_lines.proofs.locating.zone_place.Goals as goal
 
 pub returns-in-Ok-clause-place : goal.returns-in-Ok-clause-place

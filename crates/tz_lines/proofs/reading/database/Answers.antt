@@ -1,6 +1,6 @@
 use Rattle.std.proofs.Common.{◌≡◌, Ok, sym, ap, ◌∙◌}
 use Rattle.tz_specs.specs.Contents.{contents_of}
-use Rattle.tz_rules.specs.Parts.{contents_given}
+use Rattle.tz_database.specs.Parts.{contents_given}
 use Rattle.tz_lines.proofs.LineOrders.{zones_in_order, links_in_order}
 use Rattle.tz_lines.proofs.reading.database.Goals as goal
 

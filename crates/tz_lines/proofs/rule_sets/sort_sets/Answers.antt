@@ -4,8 +4,8 @@ use Rattle.std.proofs.lemmas.Fn.{always_returns_same}
 use Rattle.std.proofs.lemmas.Cmp.{nat_list_cmp_total}
 use Rattle.std.proofs.lemmas.List.Sorted.{ranks_by}
 use Rattle.tz_types.specs.declared.rule_set.RuleSet.{RuleSet}
-use Rattle.tz_rules.proofs.NameOrder.{compared}
-use Rattle.tz_rules.proofs.SortedNames.{ascends_sorted}
+use Rattle.tz_database.proofs.NameOrder.{compared}
+use Rattle.tz_database.proofs.SortedNames.{ascends_sorted}
 use Rattle.tz_lines.proofs.rule_sets.sort_sets.Goals as goal
 
 pub returns-clause-ascend : goal.returns-clause-ascend

@@ -3,9 +3,10 @@ use Rattle.std.proofs.lemmas.Bool.{cases_lt}
 use Rattle.tz_types.specs.Text.{IsText}
 use Rattle.std.proofs.lemmas.List.{get_or_read}
 use Rattle.std.proofs.lemmas.Grind.{common_steps}
+use Rattle.tz_types.specs.declared.limit.TheConstants.{LONGEST_ABBREVIATION}
 use Rattle.tz_tzif.proofs.designations.octets_of.Goals as goal
 
-one_more : (designations : List (List ℕ)) (place : ℕ) (designation : List ℕ) → place < length designations → designation ≡ get_or designations place designation → IsText 0 32 designation → ((k : ℕ) (d : List ℕ) → k < place → IsText 0 32 (get_or designations k d)) → (k : ℕ) (d : List ℕ) → k < place + 1 → IsText 0 32 (get_or designations k d)
+one_more : (designations : List (List ℕ)) (place : ℕ) (designation : List ℕ) → place < length designations → designation ≡ get_or designations place designation → IsText 0 LONGEST_ABBREVIATION designation → ((k : ℕ) (d : List ℕ) → k < place → IsText 0 LONGEST_ABBREVIATION (get_or designations k d)) → (k : ℕ) (d : List ℕ) → k < place + 1 → IsText 0 LONGEST_ABBREVIATION (get_or designations k d)
 one_more designations place designation within is text before k d below =
     ⊎_elim (λ (lt : k < place). before k d lt)
     (λ le.

@@ -1,8 +1,8 @@
 use Rattle.std.proofs.Common.{sym, Ok, Err, rules, of_calls}
 use Rattle.std.proofs.lemmas.Fn.{always_returns_same}
 use Rattle.tz_expand.specs.declared.compiled_zone.CompiledZone.{CompiledZone}
-use Rattle.tz_rules.proofs.NameOrder.{searched, compared}
-use Rattle.tz_rules.proofs.NamesFound.{found-position, missing-position}
+use Rattle.tz_database.proofs.NameOrder.{searched, compared}
+use Rattle.tz_database.proofs.NamesFound.{found-position, missing-position}
 use Rattle.tz_version.proofs.search.zone_place.Goals as goal
 
 pub returns-in-Ok : goal.returns-in-Ok

@@ -5,7 +5,7 @@ use Rattle.tz_types.specs.declared.zone_line.ZoneLine.{ZoneLine}
 use Rattle.tz_specs.specs.Written.{WrittenLine, Continuation, written_zone}
 use Rattle.tz_specs.specs.Contents.{with_line, with_record, last_lines, wants_line, waits, exceeds_lines}
 use Rattle.tz_records.specs.Entry.{written_entry_line}
-use Rattle.tz_rules.specs.Continued.{is_named_by}
+use Rattle.tz_database.specs.Continued.{is_named_by}
 use Rattle.tz_lines.specs.Gathered.{contents_gathered}
 use Rattle.tz_lines.proofs.LastZone.{as_many, has_room, still_named, still_continued, written_with_line, contents_by}
 use Rattle.tz_lines.proofs.contents.Gathered.continue_zone.Goals as goal
