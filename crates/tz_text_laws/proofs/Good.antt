@@ -7,7 +7,7 @@ use Rattle.jiff_core.specs.Calendar.{IsWithin}
 use Rattle.jiff_core.proofs.SignedLemmas.{signed_arith}
 use Rattle.tz_types.specs.Year.{IsWrittenYear, IsRuleYear}
 use Rattle.tz_types.specs.Amount.{IsTimeOfDay, IsShift, is_shift}
-use Rattle.tz_types.specs.declared.limit.TheConstants.{LONGEST_SHIFT, LAST_RULE_YEAR, LAST_WRITTEN_YEAR}
+use Rattle.tz_types.specs.declared.limit.TheConstants.{LONGEST_SHIFT, LAST_RULE_YEAR, LAST_WRITTEN_YEAR, LONGEST_FORMAT}
 use Rattle.tz_types.specs.Calendar.{has_day, has_day_through}
 use Rattle.tz_types.specs.Format.{is_format}
 use Rattle.tz_types.specs.declared.calendar.Month.{Month}
@@ -234,7 +234,7 @@ lined : ℕ → ℤ → WrittenRules → Format → Option WrittenUntil → Writ
 lined number stdoff rules format until = record { stdoff = stdoff; rules = rules; format = format; until = until; line = number }
 
 -- the line of a zone without causes is in its ranges
-pub line_good : (number : ℕ) (fields : List (List ℕ)) (line : WrittenLine) → line_of number fields ≡ Some line → length (field_at 2 fields) ≤ 24 → GoodLine line × (line.line ≡ number)
+pub line_good : (number : ℕ) (fields : List (List ℕ)) (line : WrittenLine) → line_of number fields ≡ Some line → length (field_at 2 fields) ≤ LONGEST_FORMAT → GoodLine line × (line.line ≡ number)
 unfolding line_of lined
 line_good number fields line h short =
     let stdoff = bind_some (stdoff_of (field_at 0 fields)) (λ stdoff. rules_of (field_at 1 fields) >>= λ rules. format_of (field_at 2 fields) >>= λ format. until_of fields >>= λ until. Some (lined number stdoff rules format until)) line h in
