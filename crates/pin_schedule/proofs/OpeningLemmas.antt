@@ -12,7 +12,7 @@ use Rattle.pin_core.specs.Step.{reader_at_first, opening_with_readers}
 use Rattle.pin_core.specs.declared.limits.TheConstants.{MOST_SLOTS, MOST_WRITES, READER_NUMBERS}
 use Rattle.pin_core.proofs.Opening.{opens_with_readers}
 use Rattle.pin_schedule.specs.declared.core_reader.CoreReader.{CoreReader}
-use Rattle.pin_schedule.specs.declared.placed.Placed.{Placed}
+use Rattle.pin_schedule.specs.declared.row.Row.{Row}
 use Rattle.pin_schedule.specs.Answer.{view_of, reader_of}
 use Rattle.pin_schedule.specs.Progress.{seen_front, progress_of, Amounts, IsPlayed}
 
@@ -24,7 +24,7 @@ module _ (writes : ℕ) where
   fronts_told : (slots from count : ℕ) → map (seen_front slots) (map (reader_at_first writes) (range_with_len from count)) ≡ replicate count record { n = 1; slot = 0 }
   unfolding front_number front_slot
   fronts_told slots from zero = refl
-  fronts_told slots from (suc count) = ap (λ (fs : List Placed). record { n = 1; slot = 0 } ∷ fs) (fronts_told slots (from + 1) count)
+  fronts_told slots from (suc count) = ap (λ (fs : List Row). record { n = 1; slot = 0 } ∷ fs) (fronts_told slots (from + 1) count)
 
   -- before any event
   pub opening_told : (slots readers : ℕ) → record {

@@ -14,7 +14,7 @@ use Rattle.pin_schedule.specs.declared.answer.Core.{Core}
 use Rattle.pin_schedule.specs.declared.event.Event.{Event}
 use Rattle.pin_schedule.specs.declared.event.Kind.{Kind}
 use Rattle.pin_schedule.specs.declared.event.Kind.TheVariants.{LoadFront, AddPin, TakePin, TakeTurn, Claim, StorePush, StoreErase, StoreTurn}
-use Rattle.pin_schedule.specs.declared.placed.Placed.{Placed}
+use Rattle.pin_schedule.specs.declared.row.Row.{Row}
 use Rattle.pin_schedule.specs.declared.limits.TheConstants.{MOST_EVENTS}
 use Rattle.pin_core.specs.declared.limits.TheConstants.{MOST_SLOTS, MOST_WRITES, READER_NUMBERS}
 use Rattle.pin_schedule.specs.Answer.{seat_of, view_of, reader_of, core_of}
@@ -26,15 +26,15 @@ use Rattle.pin_schedule.specs.Schedule.{IsAllowed}
 pub record Progress : Type 0 where
   pub room : ℕ
   pub core : Core
-  pub fronts : List Placed
-  pub listed : List Placed
+  pub fronts : List Row
+  pub listed : List Row
 
 -- what is told of this reader
 abbrev pub reader_at : Progress → ℕ → CoreReader
 reader_at p reader = slice_index_or p.core.readers reader (reader_of spent)
 
 -- the newest version that is listed
-abbrev pub newest : Progress → Placed
+abbrev pub newest : Progress → Row
 newest p = slice_index_or p.listed 0 record { n = 0; slot = 0 }
 
 -- the word of this slot
@@ -46,11 +46,11 @@ abbrev pub with_reader : Progress → ℕ → CoreReader → Progress
 with_reader p reader told = record p { core = record p.core { readers = slice_set p.core.readers reader told } }
 
 -- the front that this reader has seen last
-abbrev pub front_at : Progress → ℕ → Placed
+abbrev pub front_at : Progress → ℕ → Row
 front_at p reader = slice_index_or p.fronts reader record { n = 0; slot = 0 }
 
 -- what is told of a reader after it has added a pin at this front, whose slot had this word
-abbrev pub with_pin : Placed → SlotWord → CoreReader → CoreReader
+abbrev pub with_pin : Row → SlotWord → CoreReader → CoreReader
 with_pin front word r = record r {
   pins = r.pins + 1;
   entries = r.entries ++ record { slot = front.slot; position = r.seen; held = word.number == front.n } ∷ [];
@@ -78,25 +78,25 @@ written p reader number change =
     record { by = number; seq = p.room - (reader_at p reader).allowance + 1; change = change }
 
 -- the same, but that the reader has made this write, after which these are listed
-abbrev pub with_write : Progress → ℕ → Write → List Placed → Progress
+abbrev pub with_write : Progress → ℕ → Write → List Row → Progress
 with_write p reader write listed =
     let r = reader_at p reader in
     record (with_reader p reader (record r { seen = r.seen + 1; allowance = r.allowance - 1 })) { core = record (with_reader p reader (record r { seen = r.seen + 1; allowance = r.allowance - 1 })).core { journal = p.core.journal ++ write ∷ [] }; fronts = slice_set p.fronts reader (slice_index_or listed 0 record { n = 0; slot = 0 }); listed = listed }
 
 -- the greatest_number number of these versions that is below this one, or 0
-abbrev pub greatest_under : ℕ → List Placed → ℕ
-greatest_under number listed = greatest_number (filter (λ other. nat_lt other number) (map (λ (row : Placed). row.n) listed))
+abbrev pub greatest_under : ℕ → List Row → ℕ
+greatest_under number listed = greatest_number (filter (λ other. nat_lt other number) (map (λ (row : Row). row.n) listed))
 
 -- a version in this slot is among these, or one of this number
-abbrev pub is_placed : ℕ → List Placed → Bool
-is_placed slot listed = list_any (λ (row : Placed). row.slot == slot) listed
+abbrev pub is_placed : ℕ → List Row → Bool
+is_placed slot listed = list_any (λ (row : Row). row.slot == slot) listed
 
-abbrev pub is_numbered : ℕ → List Placed → Bool
-is_numbered number listed = list_any (λ (row : Placed). row.n == number) listed
+abbrev pub is_numbered : ℕ → List Row → Bool
+is_numbered number listed = list_any (λ (row : Row). row.n == number) listed
 
 -- these versions but that of this number
-abbrev pub without : ℕ → List Placed → List Placed
-without gone listed = filter (λ (row : Placed). not (row.n == gone)) listed
+abbrev pub without : ℕ → List Row → List Row
+without gone listed = filter (λ (row : Row). not (row.n == gone)) listed
 
 -- the reader of this number has the turn
 abbrev pub is_turn_of : ℕ → Option ℕ → Bool
@@ -133,12 +133,12 @@ pub record HasReach (p : Progress) (reader : ℕ) : Type 0 where
 
 -- ---- how it stands to a state ----
 
--- a version as it is kept at hand
-abbrev pub placed_of : Edition → Placed
-placed_of e = record { n = e.n; slot = e.slot }
+-- the row of a version, as it is kept at hand
+abbrev pub listed_row : Edition → Row
+listed_row e = record { n = e.n; slot = e.slot }
 
 -- the front that the reader has seen last
-abbrev pub seen_front : ℕ → View → Placed
+abbrev pub seen_front : ℕ → View → Row
 seen_front slots v = record { n = front_number slots v.seen; slot = front_slot slots v.seen }
 
 -- what is kept at hand of a state, where each reader may make so many writes in all
@@ -147,7 +147,7 @@ progress_of room s = record {
   room = room;
   core = core_of s;
   fronts = map (seen_front s.slots) (drop 1 s.views);
-  listed = map placed_of (state_after s.slots s.journal).listed;
+  listed = map listed_row (state_after s.slots s.journal).listed;
 }
 
 -- what the reader's tallies and writes amount to, after so many events

@@ -6,7 +6,7 @@ ghost use Rattle.std.specs.Prelude.{◌≡◌, ℕ, ◌^◌, not, nat_lt, filter
 ghost use Rattle.std.specs.List.{remove};
 ghost use Rattle.pin_core.specs.declared.entry.Entry.{Entry};
 ghost use Rattle.pin_core.specs.declared.write.Change.TheVariants as changes;
-ghost use Rattle.pin_schedule.specs.declared.placed.Placed.{Placed};
+ghost use Rattle.pin_schedule.specs.declared.row.Row.{Row};
 ghost use Rattle.pin_core.specs.declared.entry.SlotWord.{SlotWord};
 ghost use Rattle.pin_core.specs.Core.{CoreState};
 ghost use Rattle.pin_core.specs.Step.{with_number, reader_at_first, opening_with_readers};
@@ -20,7 +20,7 @@ use crate::answer::Core;
 use crate::core_reader::CoreReader;
 use crate::entries::{Entries, has_pin_at, has_place};
 use crate::event::{Event, Kind};
-use crate::placed::{FIRST, Placed};
+use crate::row::{FIRST, Row};
 use crate::slots::Slots;
 use pin_core::{Change, Entry, SlotWord, Write};
 use std::alloc::Global;
@@ -35,8 +35,8 @@ pub struct Course {
     turn: Option<u32>,
     claimed: Option<u32>,
     readers: Vec<CoreReader>,
-    fronts: Vec<Placed>,
-    listed: Vec<Placed>,
+    fronts: Vec<Row>,
+    listed: Vec<Row>,
 }
 
 impl Model for Course {
@@ -220,7 +220,7 @@ impl Course {
             unreachable!()
         };
         let n = self.listed[0].n + 1;
-        self.listed.insert(0, Placed { n, slot })?;
+        self.listed.insert(0, Row { n, slot })?;
         self.claimed = None;
         self.write(reader, number, Change::Push { n, src, slot })
     }
@@ -349,28 +349,28 @@ fn readers_at_first(alloc: Global, readers: u32, room: u32) -> Result<Vec<CoreRe
 }
 
 /// Whether a version in this slot is among these.
-fn is_placed(listed: &[Placed], slot: u32) -> bool
+fn is_placed(listed: &[Row], slot: u32) -> bool
     ensures { result ≡ is_placed slot listed.now }
 {
     listed.iter().any(|row| row.slot == slot)
 }
 
 /// Whether the version of this number is among these, and one behind it.
-fn has_behind(listed: &[Placed], after: u32) -> bool
+fn has_behind(listed: &[Row], after: u32) -> bool
     ensures { result ≡ (is_numbered after listed.now && nat_lt 0 (greatest_under after listed.now)) }
 {
     is_numbered(listed, after) && greatest_under(listed, after) > 0
 }
 
 /// Whether the version of this number is among these.
-fn is_numbered(listed: &[Placed], number: u32) -> bool
+fn is_numbered(listed: &[Row], number: u32) -> bool
     ensures { result ≡ is_numbered number listed.now }
 {
     listed.iter().any(|row| row.n == number)
 }
 
 /// The greatest number of these versions that is less than this one, or 0.
-fn greatest_under(listed: &[Placed], number: u32) -> u32
+fn greatest_under(listed: &[Row], number: u32) -> u32
     ensures { result ≡ greatest_under number listed.now }
 {
     listed
@@ -381,7 +381,7 @@ fn greatest_under(listed: &[Placed], number: u32) -> u32
 }
 
 /// Takes the version of this number off the list.
-fn take_off(listed: &mut Vec<Placed>, gone: u32)
+fn take_off(listed: &mut Vec<Row>, gone: u32)
     ensures { listed.new.items ≡ without gone listed.old.items }
 {
     listed.retain(|row| row.n != gone);

@@ -3,6 +3,18 @@
 //! `run_schedule` takes each event where the core allows it, and answers the core that the steps give. So a state that
 //! threads come to only by chance can be reached on purpose, and looked at. What a step is, and when it is allowed,
 //! stands in `pin_core`, and nothing of it is said again here. No thread is here either.
+//!
+//! ```rust
+//! let events = [
+//!     Event { reader: 0, kind: Kind::AddPin },                // reader 0 pins slot 0, where version 1 stands
+//!     Event { reader: 1, kind: Kind::TakeTurn },
+//!     Event { reader: 1, kind: Kind::Claim { slot: 1 } },     // slot 0 could not be claimed now
+//!     Event { reader: 1, kind: Kind::StorePush { src: 1 } },
+//! ];
+//! // two slots, two readers, room for four writes each
+//! let core = run_schedule(alloc, 2, 2, 4, &events)?;
+//! assert_eq!(rt; core.words.as_slice()[0], SlotWord { number: 1, count: 1 });
+//! ```
 #![tactic(auto)]
 
 mod answer;
@@ -11,7 +23,7 @@ mod course;
 mod entries;
 mod event;
 mod limits;
-mod placed;
+mod row;
 mod schedule;
 mod schedule_error;
 mod schedule_laws;

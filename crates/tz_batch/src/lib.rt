@@ -14,6 +14,16 @@
 //! end
 //! ```
 //!
+//! The outcome of a script with one operation is made and printed so:
+//!
+//! ```rust
+//! let mut replies = Items::new(alloc);
+//! replies.push(Reply { line: 3, w: 0, answer: Answer::Front { n: 1, slot: 0 } })?;
+//! let outcome = Outcome { journal: Items::new(alloc), replies };
+//! let text = outcome_text(alloc, &outcome)?;
+//! assert_eq!(rt; text.as_slice(), b"journal 0\nreplies 1\n3 @0 front 1 0\nend\n");
+//! ```
+//!
 //! The text settles the journal, and of each reply the line, the position and the text of the answer; of a run of a
 //! script it settles the whole outcome (`laws`). Which outcomes a script may have is defined in specs/Run.antt, for any
 //! number of lanes and rounds: what the layer above promises, which runs scripts. The crate stands on `tz_script` for

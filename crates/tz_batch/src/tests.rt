@@ -1,6 +1,6 @@
 //! Outcomes, each with its text.
 use crate::{Answer, Found, Listing, Outcome, Reply, outcome_text};
-use pin_core::{Change, Listed, Write};
+use pin_core::{Change, Listed, MOST_SLOTS, Write};
 use std::alloc::{AllocError, Global};
 use std::process::Abort;
 use std::test::Fail;
@@ -91,7 +91,7 @@ fn a_batch_of_two_texts_is_printed(rt: HostRuntime) -> Result<(), Fail> {
     }
     let mut rows = Items::new(alloc);
     rows.push(row(2, 1, 1)?)?;
-    assert!(rt; rows.len() <= 64);
+    assert!(rt; rows.len() <= MOST_SLOTS as usize);
     let mut replies = Items::new(alloc);
     replies.push(Reply {
         line: 3,
@@ -174,7 +174,7 @@ fn each_answer_is_printed(rt: HostRuntime) -> Result<(), Fail> {
     let mut rows = Items::new(alloc);
     rows.push(row(3, 1, 0)?)?;
     rows.push(row(2, 0, 5)?)?;
-    assert!(rt; rows.len() <= 64);
+    assert!(rt; rows.len() <= MOST_SLOTS as usize);
     is_answered(
         &rt,
         alloc,

@@ -5,7 +5,7 @@ use Rattle.std.specs.declared.alloc.Global.{Global}
 use Rattle.std.proofs.lemmas.Bool.{false≢true, both_ways, not-true, and_parts, le-leb, leb-true}
 use Rattle.std.proofs.lemmas.List.{length-map, take_rest}
 use Rattle.std.proofs.lemmas.Slice.Eq.{bytes_eq-Decides}
-use Rattle.tz_version.specs.Sources.{most_sources}
+use Rattle.tz_version.specs.declared.sources.TheConstants.{MOST_SOURCES}
 use Rattle.tz_cli.specs.NamedText.{NamedText}
 use Rattle.tz_cli.specs.BatchCommand.{BatchCommand, slot_count_of, IsTextOf, IsBatchCommand, text_in, name_texts, are_texts, texts_in}
 use Rattle.tz_cli.specs.Command.{words_of}
@@ -75,12 +75,6 @@ other_keyword words texts keyword script number leaps batch all unlike is =
     let are : words_of (keyword ∷ script ∷ number ∷ leaps ∷ texts) ≡ codes "batch" ∷ batch.script ∷ is.number ∷ batch.leaps ∷ is.named = sym (ap words_of all) ∙ is.words_are in
     unlike cc
 
-pub no_slots : (words texts : List (String Global)) (keyword script number leaps : String Global) (batch : BatchCommand) → words ≡ keyword ∷ script ∷ number ∷ leaps ∷ texts → slot_count_of (string_bytes number) ≡ None → IsBatchCommand (words_of words) batch → ⊥
-no_slots words texts keyword script number leaps batch all none is =
-    let are : words_of (keyword ∷ script ∷ number ∷ leaps ∷ texts) ≡ codes "batch" ∷ batch.script ∷ is.number ∷ batch.leaps ∷ is.named = sym (ap words_of all) ∙ is.words_are in
-    let number_is : string_bytes number ≡ is.number = cc in
-    let slots : Some batch.slots ≡ None = sym is.slots_are ∙ sym (ap slot_count_of number_is) ∙ none in cc
-
 pub no_texts : (words texts : List (String Global)) (keyword script number leaps : String Global) (batch : BatchCommand) → words ≡ keyword ∷ script ∷ number ∷ leaps ∷ texts → are_texts texts ≡ false → IsBatchCommand (words_of words) batch → ⊥
 no_texts words texts keyword script number leaps batch all none is =
     let are : words_of (keyword ∷ script ∷ number ∷ leaps ∷ texts) ≡ codes "batch" ∷ batch.script ∷ is.number ∷ batch.leaps ∷ is.named = sym (ap words_of all) ∙ is.words_are in
@@ -89,25 +83,19 @@ no_texts words texts keyword script number leaps batch all none is =
     let some_text = is.some_text in
     let few_texts = is.few_texts in
     let low : nat_le 1 (length texts) ≡ true = le-leb 1 (length texts) (omega (arith, long, some_text)) in
-    let high : nat_le (length texts) most_sources ≡ true = le-leb (length texts) most_sources (omega (arith, long, few_texts)) in
+    let high : nat_le (length texts) MOST_SOURCES ≡ true = le-leb (length texts) MOST_SOURCES (omega (arith, long, few_texts)) in
     let each : name_texts texts ≡ true = texts_named texts batch.texts (subst (λ (them : List (List ℕ)). AllZip IsTextOf them batch.texts) named is.texts_are) in
     let yes : are_texts texts ≡ true = rw (low, high, each) refl in
     absurd (false≢true (sym none ∙ yes))
-
-pub too_few_words : (words : List (String Global)) (batch : BatchCommand) → length words < 4 → IsBatchCommand (words_of words) batch → ⊥
-too_few_words words batch few is =
-    let long : length (words_of words) ≡ length words = length-map words string_bytes in
-    let all : length (words_of words) ≡ length (codes "batch" ∷ batch.script ∷ is.number ∷ batch.leaps ∷ is.named) = ap length is.words_are in
-    omega (arith, long, all)
 
 -- Words that begin so are those of that batch.
 pub is_batch : (words texts : List (String Global)) (keyword script number leaps : String Global) (slots : ℕ) → words ≡ keyword ∷ script ∷ number ∷ leaps ∷ texts → string_bytes keyword ≡ codes "batch" → slot_count_of (string_bytes number) ≡ Some slots → are_texts texts ≡ true → IsBatchCommand (words_of words) (record { script = string_bytes script; slots = slots; leaps = string_bytes leaps; texts = texts_in texts })
 is_batch words texts keyword script number leaps slots all starts slots_are are =
     let long : length (words_of texts) ≡ length texts = length-map texts string_bytes in
-    let both = and_parts (nat_le 1 (length texts) && nat_le (length texts) most_sources) (name_texts texts) are in
-    let range = and_parts (nat_le 1 (length texts)) (nat_le (length texts) most_sources) both.0 in
+    let both = and_parts (nat_le 1 (length texts) && nat_le (length texts) MOST_SOURCES) (name_texts texts) are in
+    let range = and_parts (nat_le 1 (length texts)) (nat_le (length texts) MOST_SOURCES) both.0 in
     let some_text = leb-true 1 (length texts) range.0 in
-    let few_texts = leb-true (length texts) most_sources range.1 in
+    let few_texts = leb-true (length texts) MOST_SOURCES range.1 in
     record {
       number = string_bytes number;
       named = words_of texts;

@@ -59,12 +59,6 @@ next_read told names left_names later contents left less name content has are ma
       bytes = omega (arith, count, before, less_is);
     }
 
--- all is read
-pub all_read : (told : Option FileContents) (names contents : List (List ℕ)) (left : ℕ) → HasRead told names [] contents left → MayReadAll told names contents
-all_read told names contents left has =
-    let are : names ≡ has.done = has.names_are ∙ append-nil has.done in
-    rw are has.read
-
 pub few_read : (told : Option FileContents) (names left_names contents : List (List ℕ)) (left : ℕ) → HasRead told names left_names contents left → bytes_together contents ≤ MOST_BYTES
 few_read told names left_names contents left has =
     let bytes = has.bytes in omega (arith, bytes)

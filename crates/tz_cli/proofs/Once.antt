@@ -133,24 +133,6 @@ differ : (word other : List ℕ) → word ≡ other → pointwise nat_eq word ot
 differ word other same apart alike =
     let never : true ≡ false = sym alike ∙ ap (λ (it : List ℕ). pointwise nat_eq it other) (sym same) ∙ apart in cc
 
--- the keyword of no command is `batch`
-not_batch : (command : Command) → codes "batch" ≡ keyword command → ⊥
-not_batch (Info text zone t) same = differ (codes "batch") (codes "info") same refl refl
-not_batch (Local text zone l choice) same = differ (codes "batch") (codes "local") same refl refl
-not_batch (Moves text zone from to) same = differ (codes "batch") (codes "moves") same refl refl
-not_batch (Days text zone first count) same = differ (codes "batch") (codes "days") same refl refl
-not_batch (Tzif text zone first last) same = differ (codes "batch") (codes "tzif") same refl refl
-not_batch (Dump text from to zone) same = differ (codes "batch") (codes "dump") same refl refl
-not_batch (Check text) same = differ (codes "batch") (codes "check") same refl refl
-not_batch (Clock leaps conversion count) same = differ (codes "batch") (codes "clock") same refl refl
-
--- the words of `batch` are those of no other command
-pub batch_alone : (words : List (List ℕ)) (batch : BatchCommand) (command : Command) → IsBatchCommand words batch → IsCommand words command → ⊥
-batch_alone words batch command is other =
-    let there = begins words command other in
-    let are : codes "batch" ∷ batch.script ∷ is.number ∷ batch.leaps ∷ is.named ≡ keyword command ∷ there.0 = sym is.words_are ∙ there.1 in
-    not_batch command cc
-
 -- the words are those of at most one command
 pub one_command : (words : List (List ℕ)) (a b : Command) → IsCommand words a → IsCommand words b → a ≡ b
 one_command words (Info text zone t) (Info text' zone' t') first second =

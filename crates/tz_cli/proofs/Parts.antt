@@ -4,6 +4,7 @@ use Rattle.std.proofs.lemmas.Bool.Decides.{nat_tests}
 use Rattle.std.proofs.lemmas.Grind.{common_steps}
 use Rattle.std.specs.Borrow.{Bor}
 use Rattle.tz_specs.specs.Parts.{onto_part}
+use Rattle.tz_types.specs.declared.limit.TheConstants.{MOST_FILES}
 use Rattle.tz_cli.specs.NamedText.{parts_of, are_names, are_file_names, text_with_names, named_text_of}
 
 -- the bytes of names that are left, and a comma before them
@@ -39,10 +40,10 @@ some_part (byte ∷ bytes) = elim (byte == 0x2c) as (λ b. 1 ≤ length (if b th
     onto (part ∷ parts) = omega arith
 
 -- few names are files' names, where none is empty
-pub fit_names : (names : List (List ℕ)) → 1 ≤ length names → length names ≤ 16 → are_names names ≡ true → are_file_names names ≡ true
+pub fit_names : (names : List (List ℕ)) → 1 ≤ length names → length names ≤ MOST_FILES → are_names names ≡ true → are_file_names names ≡ true
 fit_names names some few are =
     let low : nat_le 1 (length names) ≡ true = grind (arith, nat_tests) in
-    let high : nat_le (length names) 16 ≡ true = grind (arith, nat_tests) in
+    let high : nat_le (length names) MOST_FILES ≡ true = grind (arith, nat_tests) in
     rw (low, high, are) refl
 
 -- a word that doesn't begin with `=` names files alone

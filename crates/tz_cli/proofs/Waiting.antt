@@ -74,11 +74,6 @@ pub none_left : {A : Type 0} (xs : List A) → length xs ≡ 0 → xs ≡ []
 none_left [] none = refl
 none_left (x ∷ xs) none = absurd (omega arith)
 
--- a text that was put from nothing that waited, and then all that waits was written
-pub put_whole : (before between : ℕ × ℕ) (had middle has : Option (List ℕ)) (waits text : List ℕ) → IsPut before between had middle [] waits text → Appends middle has waits → Appends had has text
-put_whole before between had middle has waits text put taken =
-    subst (λ (bytes : List ℕ). Appends had has bytes) put.whole (in_turn had middle has put.written waits put.taken taken)
-
 -- and where writing it failed or stalled
 pub put_whole_stopped : (before between now : ℕ × ℕ) (had middle has : Option (List ℕ)) (waits text : List ℕ) → IsPut before between had middle [] waits text → IsStopped stops.Write between now middle has waits → IsStopped stops.Write before now had has text
 put_whole_stopped before between now had middle has waits text put stopped =

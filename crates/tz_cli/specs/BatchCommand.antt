@@ -6,7 +6,7 @@ use Rattle.std.specs.Option.{option_and_then}
 use Rattle.tz_types.specs.Civil.{is_from_to}
 use Rattle.tz_specs.specs.Choice.{only_if}
 use Rattle.tz_specs.specs.Number.{number_of}
-use Rattle.tz_version.specs.Sources.{most_sources}
+use Rattle.tz_version.specs.declared.sources.TheConstants.{MOST_SOURCES}
 use Rattle.pin_core.specs.declared.limits.TheConstants.{FEWEST_SLOTS, MOST_SLOTS}
 use Rattle.tz_cli.specs.NamedText.{NamedText, named_text_of}
 
@@ -32,7 +32,7 @@ pub record IsBatchCommand (words : List (List ℕ)) (batch : BatchCommand) : Typ
   pub words_are : words ≡ codes "batch" ∷ batch.script ∷ number ∷ batch.leaps ∷ named
   pub slots_are : slot_count_of number ≡ Some batch.slots
   pub some_text : 1 ≤ length named
-  pub few_texts : length named ≤ most_sources
+  pub few_texts : length named ≤ MOST_SOURCES
   pub texts_are : AllZip IsTextOf named batch.texts
 
 -- the text that a word names, where it names one
@@ -45,7 +45,7 @@ name_texts words = list_all (λ word. is_some (text_in word)) words
 
 -- there are one to 64 words, each of which names a text
 abbrev pub are_texts : List (String Global) → Bool
-are_texts words = nat_le 1 (length words) && nat_le (length words) most_sources && name_texts words
+are_texts words = nat_le 1 (length words) && nat_le (length words) MOST_SOURCES && name_texts words
 
 -- the texts that words name
 abbrev pub texts_in : List (String Global) → List NamedText

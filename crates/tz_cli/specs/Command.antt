@@ -14,6 +14,7 @@ use Rattle.tz_text.specs.LocalTime.{local_time_of}
 use Rattle.tz_cli.specs.NamedText.{NamedText, named_text_of, parts_of}
 use Rattle.tz_cli.specs.BatchCommand.{BatchCommand, IsBatchCommand, texts_in}
 use Rattle.tz_cli.specs.declared.batch_line.BatchLine.{BatchLine}
+use Rattle.tz_cli.specs.declared.words.TheConstants.{MOST_DAYS}
 use Rattle.tz_cli.specs.declared.text_word.TextWord.{TextWord}
 use Rattle.tz_cli.specs.declared.command_line.CommandLine.{CommandLine}
 use Rattle.tz_cli.specs.declared.command_line.CommandLine.TheVariants as lines
@@ -63,13 +64,9 @@ pub record IsMovesCommand (words : List (List ℕ)) (text : NamedText) (zone : L
   pub first_is : signed_number_of 1 15 first ≡ Some from
   pub last_is : signed_number_of 1 15 last ≡ Some to
 
--- the most days that are asked for at once
-abbrev pub most_days : ℕ
-most_days = 4_096
-
 -- how many days a word asks for: 1 to 15 digits, whose value is from 1 to the most
 abbrev pub day_count_of : List ℕ → Option ℕ
-day_count_of word = option_and_then (λ count. only_if (is_from_to 1 most_days count) count) (number_of 1 15 word)
+day_count_of word = option_and_then (λ count. only_if (is_from_to 1 MOST_DAYS count) count) (number_of 1 15 word)
 
 -- The words are `days TEXT ZONE FIRST COUNT`.
 pub record IsDaysCommand (words : List (List ℕ)) (text : NamedText) (zone : List ℕ) (first : ℤ) (count : ℕ) : Type 0 where

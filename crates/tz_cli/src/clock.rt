@@ -1,5 +1,6 @@
 //! The command `clock`: a count of one clock by that of another, in whole seconds.
 ghost use Rattle.std.specs.Prelude.{◌≡◌, ◌≤◌, length, Ok, IsErr, IfOk, IfErr, OnOk, ℤ};
+ghost use Rattle.tz_types.specs.declared.limit.TheConstants.{MOST_BYTES};
 ghost use Rattle.tz_cli.specs.Line.{number_line, leap_line};
 ghost use Rattle.tz_cli.specs.Conversion.{IsConvertible, IsConversionLine};
 ghost use Rattle.tz_cli.specs.Clock.{ClockAnswers};
@@ -73,7 +74,7 @@ pub fn clock(
     conversion: Conversion,
     number: i64,
 ) -> Result<Vec<u8>, Refusal>
-    requires { length text.now ≤ 4_194_304 }
+    requires { length text.now ≤ MOST_BYTES }
     ensures { Gives (ClockAnswers text.now conversion number) result }
 {
     let leaps = match read_leaps(alloc, text) {

@@ -8,6 +8,18 @@
 //! names up to sixteen files with commas between, and `=VERSION,` before them gives the text's version. A command that
 //! is refused prints why. The words of `batch SCRIPT SLOTS LEAPS TEXT..` are matched here and left to the layer above,
 //! which takes from here how files are read and lines printed.
+//!
+//! ```rust
+//! let mut words = Vec::new(alloc);
+//! for word in ["info", "tzdata.zi", "Europe/Paris", "0"] {
+//!     words.push(String::from_str(alloc, word)?)?;
+//! }
+//! let (mut files, mut sink) = (RealFiles::new(&rt), RealSink::new(&rt));
+//! match run_plain(&rt, alloc, words.as_slice(), &mut files, &mut sink) {
+//!     Plain::Done(status) => return ExitCode::from(status.code()),
+//!     Plain::Shared => {} // the words are those of `batch`
+//! }
+//! ```
 #![tactic(auto)]
 
 mod batch_line;
@@ -16,6 +28,7 @@ mod clock;
 mod command_line;
 mod days;
 mod dump;
+mod file_contents;
 mod info;
 mod line;
 mod local;
@@ -23,8 +36,7 @@ mod moves;
 mod named_zone;
 mod output;
 mod pieces;
-mod printing;
-mod reading;
+mod printout;
 mod refusal;
 mod status;
 mod text;
@@ -36,8 +48,8 @@ mod zone_dump;
 mod zones;
 
 pub use batch_line::BatchLine;
-pub use printing::{print, print_refusal};
-pub use reading::{read_files, read_leaps, read_one};
+pub use file_contents::{read_files, read_leaps, read_one};
+pub use printout::{print, print_refusal};
 pub use refusal::Refusal;
 pub use status::{Plain, Status};
 pub use text_word::TextWord;

@@ -1,6 +1,7 @@
 //! The lines that commands print, each a value spelled by `tz_output` with a newline behind it.
 ghost use Rattle.std.specs.Prelude.{◌≡◌, ◌≤◌, ◌<◌, ◌*◌, ◌^◌, ◌++◌, IfOk, OnOk};
 ghost use Rattle.std.specs.Fmt.{decimal};
+ghost use Rattle.tz_types.specs.declared.limit.TheConstants.{MOST_SETS, MOST_RULES};
 ghost use Rattle.tz_cli.specs.Line.{range_line, local_line, sys_line, move_line, day_line, number_line, leap_line, rule_count, check_line, in_file, fault_line};
 
 use std::alloc::Global;
@@ -84,7 +85,7 @@ pub fn leap_line(alloc: Global, info: LeapInfo) -> Result<Vec<u8>, NoMemory>
 /// How many rules the database has, in all its sets.
 fn rule_count(db: &Db) -> usize
     ensures count { result ≡ rule_count db.now }
-    ensures bound { result ≤ 1_024 * 512 }
+    ensures bound { result ≤ MOST_SETS * MOST_RULES }
 {
     let mut count = 0;
     for set in db.sets.as_slice() {

@@ -7,7 +7,7 @@ ghost use Rattle.tz_cli.specs.Output.{output_text, output_status, is_in_pieces};
 
 use crate::Status;
 use crate::dump::{Stop, write_zones};
-use crate::printing::print;
+use crate::printout::print;
 use crate::zone_dump::ZoneDump;
 use std::alloc::Global;
 use std::thread::Threads;

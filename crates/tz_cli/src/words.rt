@@ -11,7 +11,7 @@ use tz_output::{Choice, Conversion};
 use tz_text::{local_time, number, signed_number};
 
 /// The most days that are asked for at once.
-const MOST_DAYS: u64 = 4_096;
+pub const MOST_DAYS: u64 = 4_096;
 
 /// `info TEXT ZONE T`.
 fn info(words: &[String]) -> Option<CommandLine<'_>>

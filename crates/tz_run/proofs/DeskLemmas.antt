@@ -215,10 +215,6 @@ dropped_stocked sources book places holds stays stocked =
     with_holds sources book places holds (filter stays holds) stocked
     (λ hold has. stocked.held hold (contains_filter stays hold holds has))
 
-pub unheld_stocked : (sources : Sources) (book : Chronicle) (places : List (Option Release)) (holds : List Hold) → IsStocked sources book places holds → IsStocked sources book places []
-unheld_stocked sources book places holds stocked =
-    with_holds sources book places holds [] stocked (λ hold has. absurd (contains_none hold has))
-
 -- ---- what is kept
 -- the version that stands in the slot of an edition is that of its source
 pub placed_version : (sources : Sources) (places : List (Option Release)) (edition : Edition) (found : Release) → IsPlaced sources places edition → slice_get places edition.slot ≡ Some (Some found) → IsVersionOf sources edition.src found
@@ -263,7 +259,3 @@ pub push_allowed : (sources : Sources) (book : Chronicle) (places : List (Option
 push_allowed sources book places holds n src slot stocked number inside unlisted =
     let wide : length (list_of book).kept ≡ book.slots = (orderly sources book places holds stocked).wide in
     asked_push (list_of book) n src slot (record { next = number; inside = rw wide inside; unlisted = unlisted })
-
-pub erase_allowed : (book : Chronicle) (after gone : ℕ) → is_listed after (list_of book).listed ≡ true → 0 < greatest_below after (list_of book).listed → gone ≡ greatest_below after (list_of book).listed → allowed (list_of book) (Erase after gone) ≡ true
-erase_allowed book after gone listed some next =
-    asked_erase (list_of book) after gone (record { listed = listed; some = rw next some; next = next })

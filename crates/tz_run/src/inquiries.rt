@@ -2,6 +2,7 @@
 ghost use Rattle.std.specs.Prelude.{◌≡◌, IfOk};
 ghost use Rattle.std.specs.Int.{IsInRange};
 ghost use Rattle.jiff_core.specs.Calendar.{IsWithin};
+ghost use Rattle.tz_script.specs.declared.limit.TheConstants.{LONGEST_STEP, MOST_SCANNED};
 ghost use Rattle.tz_script.specs.Operation.{hold_picked};
 ghost use Rattle.tz_script.specs.Size.{most_signed};
 ghost use Rattle.tz_batch.specs.Finding.{FindsInfo, FindsLocal, FindsSys, FindsScan, FindsByClock};
@@ -100,8 +101,8 @@ impl<'s> Desk<'s> {
     ) -> Answer
         requires held { HasHold self.now (hold_picked pick.now) }
         requires from { IsWithin most_signed from }
-        requires step { IsInRange 1 4_294_967_295 step }
-        requires count { IsInRange 1 65_536 count }
+        requires step { IsInRange 1 LONGEST_STEP step }
+        requires count { IsInRange 1 MOST_SCANNED count }
         ensures { ServesInZone self.now pick.now zone.now (λ compiled. FindsScan compiled from step count) result self.now }
     {
         let picked = self.picked(pick);

@@ -7,6 +7,7 @@ ghost use Rattle.jiff_core.specs.Calendar.{IsWithin};
 ghost use Rattle.tz_specs.specs.Expansion.{IsInstant, range_at};
 ghost use Rattle.tz_expand.specs.Zone.{expansion_of};
 ghost use Rattle.tz_windows.specs.Scan.{scan_of};
+ghost use Rattle.tz_windows.specs.declared.scan.TheConstants.{MOST_LOOKS};
 ghost use Rattle.tz_batch.specs.Finding.{FindsInfo, FindsLocal, FindsSys, FindsScan, FindsInZone};
 
 use std::alloc::Global;
@@ -58,7 +59,7 @@ fn scan_uncounted<Q: Ledger, L: Ledger>(
     requires steps_parts { of_steps.parts ≡ L.parts }
     requires steps_count { 0 < of_steps.parts }
     requires apart { 1 ≤ step }
-    requires few { count ≤ 65_536 }
+    requires few { count ≤ MOST_LOOKS }
     requires near { IsWithin (10 ^ 15) from }
     ensures { result ≡ scan_of zone.old from step count }
 {
@@ -101,7 +102,7 @@ fn sys_in(zone: &CompiledZone, l: i64, choose: Option<Choose>) -> Found
 /// What a scan finds in a zone.
 fn scan_in(alloc: Global, zone: &mut ZoneRef<'_>, from: i64, step: u32, count: u32) -> Found
     requires apart { 1 ≤ step }
-    requires few { count ≤ 65_536 }
+    requires few { count ≤ MOST_LOOKS }
     requires near { IsWithin (10 ^ 15) from }
     ensures { FindsScan zone.old from step count result }
 {
@@ -150,7 +151,7 @@ pub fn find_scan(
     count: u32,
 ) -> Found
     requires apart { 1 ≤ step }
-    requires few { count ≤ 65_536 }
+    requires few { count ≤ MOST_LOOKS }
     requires near { IsWithin (10 ^ 15) from }
     ensures { FindsInZone version.now.sources version.now.src name.now (λ compiled. FindsScan compiled from step count) result }
 {

@@ -7,8 +7,12 @@ ghost use Rattle.tz_run.specs.Serving.{HasNewestName, ServesReload};
 use crate::desk::Desk;
 use std::alloc::Global;
 use tz_batch::Answer;
+use tz_script::LAST_SOURCE;
 use tz_types::{Fault, NoMemory, Shared};
-use tz_version::{MakeError, Version};
+use tz_version::{MOST_SOURCES, MakeError, Version};
+
+// A script may name each text that may come, and no other.
+const _: () = prove!(LAST_SOURCE as usize + 1 == MOST_SOURCES);
 
 /// Tells why a source is refused.
 fn refused(fault: Fault) -> Answer

@@ -3,7 +3,7 @@ use Rattle.std.proofs.Common.{◌≡◌, ℕ, zero, suc, ◌+◌, ◌<◌, ◌�
 use Rattle.std.proofs.lemmas.Bool.{cases_Bool}
 use Rattle.std.proofs.lemmas.Bool.Decides.{nat_tests}
 use Rattle.tz_types.specs.Order.{ascends, ascends_after, name_before}
-use Rattle.tz_types.specs.declared.limit.TheConstants.{MOST_RULES, MOST_SETS, MOST_ZONES, MOST_LINKS}
+use Rattle.tz_types.specs.declared.limit.TheConstants.{MOST_RULES, MOST_SETS, MOST_ZONES, MOST_LINKS, LONGEST_FORMAT}
 use Rattle.tz_types.specs.declared.cause.Cause.{Cause}
 use Rattle.tz_types.specs.declared.cause.Cause.TheVariants as causes
 use Rattle.tz_types.specs.declared.fault.LineFault.{LineFault}
@@ -443,10 +443,10 @@ rule_flags too_many fields h =
     let limit = none_holds (rule_causes too_many fields) h 10 (causes.Limit, is_long_name (field_at 1 fields) || too_many) refl in
     (order, (neither (is_long_name (field_at 1 fields)) too_many limit).1)
 
-line_flags : (badly_named too_many : Bool) (fields : List (List ℕ)) → least_cause (line_causes badly_named too_many fields) ≡ None → (length (field_at 2 fields) ≤ 24) × (too_many ≡ false)
+line_flags : (badly_named too_many : Bool) (fields : List (List ℕ)) → least_cause (line_causes badly_named too_many fields) ≡ None → (length (field_at 2 fields) ≤ LONGEST_FORMAT) × (too_many ≡ false)
 unfolding line_causes
 line_flags badly_named too_many fields h =
-    let short : nat_lt 24 (length (field_at 2 fields)) ≡ false = none_holds (line_causes badly_named too_many fields) h 7 (causes.LongAbbrev, nat_lt 24 (length (field_at 2 fields))) refl in
+    let short : nat_lt LONGEST_FORMAT (length (field_at 2 fields)) ≡ false = none_holds (line_causes badly_named too_many fields) h 7 (causes.LongAbbrev, nat_lt LONGEST_FORMAT (length (field_at 2 fields))) refl in
     let limit = none_holds (line_causes badly_named too_many fields) h 8 (causes.Limit, too_many || (names_set (field_at 1 fields) && is_long_name (field_at 1 fields))) refl in
     (grind (arith, nat_tests, short), (neither too_many (names_set (field_at 1 fields) && is_long_name (field_at 1 fields)) limit).0)
 

@@ -36,13 +36,6 @@ gives_due batch told failed text sources (Ok line) read given = answer_due batch
 gives_due batch told failed text sources (Err refusals.Memory) read given = tt
 gives_due batch told failed text sources (Err refusal) read given = answer_due batch told failed text sources (refusal_status refusal) (refusal_line refusal) read given
 
--- a refusal of the files is due
-pub files_due : (batch : BatchCommand) (told : Option FileContents) (failed : List ℕ → Type 0) (refusal : Refusal) → RefusesGroups told (file_groups batch) failed refusal → IsRefusal (IsBatchDue batch told failed) refusal
-files_due batch told failed refusals.Memory refused = tt
-files_due batch told failed refusals.Read refused = (refused, refl)
-files_due batch told failed refusals.TooLarge refused = (refused, refl)
-files_due batch told failed refusal refused = absurd refused
-
 -- the line of a refusal is due at its status
 pub refusal_due : (batch : BatchCommand) (told : Option FileContents) (failed : List ℕ → Type 0) (refusal : Refusal) → IsRefusal (IsBatchDue batch told failed) refusal → IsBatchDue batch told failed (refusal_status refusal) (refusal_line refusal)
 refusal_due batch told failed refusals.Memory refused = refl

@@ -9,7 +9,7 @@ use Rattle.tz_types.specs.declared.source.Source.{Source}
 use Rattle.tz_script.specs.Script.{ReadsScript}
 use Rattle.tz_script.specs.declared.script.Script.{Script}
 use Rattle.tz_script.proofs.ScriptLaws.{not_both}
-use Rattle.tz_version.specs.Sources.{most_sources}
+use Rattle.tz_version.specs.declared.sources.TheConstants.{MOST_SOURCES}
 use Rattle.tz_version.specs.declared.sources.Sources.{Sources}
 use Rattle.tz_batch.specs.Answering.{IsAccepted}
 use Rattle.tz_cli.specs.Clock.{IsLeapRefusal}
@@ -41,7 +41,7 @@ by_parts a b texts leaps = λ i. record {
   texts = texts i;
   leaps = leaps i;
   some_text = is_prop→PathP (λ j. 1 ≤ length (texts j)) (λ j. hlevel props) a.some_text b.some_text i;
-  few_texts = is_prop→PathP (λ j. length (texts j) ≤ most_sources) (λ j. hlevel props) a.few_texts b.few_texts i;
+  few_texts = is_prop→PathP (λ j. length (texts j) ≤ MOST_SOURCES) (λ j. hlevel props) a.few_texts b.few_texts i;
   few_bytes = is_prop→PathP (λ j. length (leaps j) ≤ MOST_BYTES) (λ j. hlevel props) a.few_bytes b.few_bytes i;
 }
 

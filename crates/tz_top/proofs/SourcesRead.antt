@@ -8,7 +8,7 @@ use Rattle.std.proofs.lemmas.List.Elements.{filter_map-append}
 use Rattle.tz_types.specs.declared.limit.TheConstants.{MOST_BYTES}
 use Rattle.tz_types.specs.Source.{bytes_together}
 use Rattle.tz_types.specs.declared.source.Source.{Source}
-use Rattle.tz_version.specs.Sources.{most_sources}
+use Rattle.tz_version.specs.declared.sources.TheConstants.{MOST_SOURCES}
 use Rattle.tz_version.specs.declared.sources.Sources.{Sources}
 use Rattle.tz_cli.specs.NamedText.{NamedText, IsSourceOf}
 use Rattle.tz_cli.specs.BatchCommand.{BatchCommand, IsTextOf, text_in, name_texts, are_texts, texts_in}
@@ -70,10 +70,6 @@ text_at words i word all within at = by_text (text_in word) refl
 texts_with : (words : List (String Global)) (word : String Global) (text : NamedText) → text_in word ≡ Some text → texts_in (words ++ word ∷ []) ≡ texts_in words ++ text ∷ []
 texts_with words word text is = filter_map-append text_in words (word ∷ []) ∙ rw is refl
 
--- nothing is read yet
-pub no_sources : (told : Option FileContents) → AreReadSources told [] []
-no_sources told = record { contents = []; read = tt; few_bytes = refl; are = tt }
-
 -- one more is read
 pub next_source : (told : Option FileContents) (words : List (String Global)) (i : ℕ) (word : String Global) (text : NamedText) (sources : List Source) (source : Source) → i < length words → word ≡ get_or words i word → IsTextOf (string_bytes word) text → AreReadSources told (texts_in (take i words)) sources → IsReadSource told text source → AreReadSources told (texts_in (take (i + 1) words)) (sources ++ source ∷ [])
 next_source told words i word text sources source within at is have one =
@@ -98,12 +94,12 @@ groups_at words i word text within at is =
     ap text_groups texts ∙ map-append (λ (text : NamedText). text.files) (texts_in (take i words)) (text ∷ texts_in (drop (i + 1) words))
 
 -- the sources of one to 64 words
-pub some_sources : (told : Option FileContents) (words : List (String Global)) (sources : List Source) → are_texts words ≡ true → AreReadSources told (texts_in words) sources → (1 ≤ length sources) × (length sources ≤ most_sources)
+pub some_sources : (told : Option FileContents) (words : List (String Global)) (sources : List Source) → are_texts words ≡ true → AreReadSources told (texts_in words) sources → (1 ≤ length sources) × (length sources ≤ MOST_SOURCES)
 some_sources told words sources are have =
-    let both = and_parts (nat_le 1 (length words) && nat_le (length words) most_sources) (name_texts words) are in
-    let range = and_parts (nat_le 1 (length words)) (nat_le (length words) most_sources) both.0 in
+    let both = and_parts (nat_le 1 (length words) && nat_le (length words) MOST_SOURCES) (name_texts words) are in
+    let range = and_parts (nat_le 1 (length words)) (nat_le (length words) MOST_SOURCES) both.0 in
     let low = leb-true 1 (length words) range.0 in
-    let high = leb-true (length words) most_sources range.1 in
+    let high = leb-true (length words) MOST_SOURCES range.1 in
     let long : length sources ≡ length words = each_source (texts_in words) have.contents sources have.are ∙ each_named words both.1 in
     (omega (arith, low, long), omega (arith, high, long))
 

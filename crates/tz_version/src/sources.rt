@@ -1,7 +1,7 @@
 //! What versions are made from.
 ghost use Rattle.std.specs.Prelude.{◌≡◌, ◌≤◌, ◌↔◌, length, IsSome, IfSome};
 ghost use Rattle.tz_types.specs.declared.limit.TheConstants.{MOST_BYTES};
-ghost use Rattle.tz_version.specs.Sources.{most_sources, FitsSources};
+ghost use Rattle.tz_version.specs.declared.sources.TheConstants.{MOST_SOURCES};
 
 use tz_types::{Items, MOST_BYTES, Source, Text};
 
@@ -14,11 +14,12 @@ pub struct Sources {
     pub texts: Items<Source>,
     pub leaps: Text,
     pub ghost some_text: { 1 ≤ length texts },
-    pub ghost few_texts: { length texts ≤ most_sources },
+    pub ghost few_texts: { length texts ≤ MOST_SOURCES },
     pub ghost few_bytes: { length leaps ≤ MOST_BYTES },
 }
 
 impl Sources {
+    ghost use Rattle.tz_version.specs.Sources.{FitsSources};
     ghost use Rattle.tz_version.specs.declared.sources.Sources.{Sources};
 
     /// These sources with their leap text. None comes exactly where there are no sources, more than 64, or more than 4,194,304

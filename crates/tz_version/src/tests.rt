@@ -1,6 +1,7 @@
 //! Versions of short texts, as calls. What is expected of New York is known from its own clocks.
 ghost use Rattle.std.specs.Prelude.{◌≡◌, ◌<◌, ◌≤◌, ◌^◌};
 ghost use Rattle.jiff_core.specs.Calendar.{IsWithin};
+ghost use Rattle.tz_windows.specs.declared.scan.TheConstants.{MOST_LOOKS};
 
 use crate::{MakeError, NoZone, Sources, Version};
 use std::alloc::Global;
@@ -93,7 +94,7 @@ fn scanned<Q: Ledger, L: Ledger>(
     requires steps_parts { of_steps.parts ≡ L.parts }
     requires steps_count { 0 < of_steps.parts }
     requires apart { 1 ≤ asked.1 }
-    requires few { asked.2 ≤ 65_536 }
+    requires few { asked.2 ≤ MOST_LOOKS }
     requires near { IsWithin (10 ^ 15) asked.0 }
 {
     let (from, step, count) = asked;

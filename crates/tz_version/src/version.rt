@@ -2,9 +2,9 @@
 ghost use Rattle.std.specs.Prelude.{◌≡◌, ◌<◌, ◌↔◌, length, Err, IsErr, IfOk, IfErr};
 ghost use Rattle.tz_types.specs.declared.fault.Fault.{Fault};
 
-use crate::reading::{database, leap_table};
 use crate::ready_zones::{compiled_zones, empty_cells};
 use crate::search::place_called;
+use crate::texts::{database, leap_table};
 use crate::{MakeError, NoZone, Sources};
 use std::alloc::Global;
 use std::marker::Model;

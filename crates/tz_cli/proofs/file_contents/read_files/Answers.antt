@@ -3,7 +3,7 @@ use Rattle.tz_io.specs.Counts.{Rose}
 use Rattle.tz_cli.specs.NamedText.{parts_of, parts_left}
 use Rattle.tz_cli.specs.Outcome.{Failed, MayRead}
 use Rattle.tz_cli.proofs.Contents.{next_refused, refused_before, next_read}
-use Rattle.tz_cli.proofs.reading.read_files.Goals as goal
+use Rattle.tz_cli.proofs.file_contents.read_files.Goals as goal
 
 pub returns-in-Err-clause-refused : goal.returns-in-Err-clause-refused
 returns-in-Err-clause-refused g c =

@@ -2,7 +2,7 @@ use Rattle.std.proofs.Common.{[], ◌∷◌, refl}
 use Rattle.tz_types.specs.declared.limit.TheConstants.{MOST_BYTES}
 use Rattle.tz_cli.specs.Outcome.{Failed}
 use Rattle.tz_cli.proofs.Contents.{none_read, next_refused}
-use Rattle.tz_cli.proofs.reading.read_one.Goals as goal
+use Rattle.tz_cli.proofs.file_contents.read_one.Goals as goal
 
 pub returns-in-Err-clause-refused : goal.returns-in-Err-clause-refused
 returns-in-Err-clause-refused g c =

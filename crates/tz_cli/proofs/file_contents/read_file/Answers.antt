@@ -1,6 +1,6 @@
 use Rattle.std.proofs.Common.{◌≤◌, length, arith}
 use Rattle.tz_cli.proofs.Contents.{may_read, too_large}
-use Rattle.tz_cli.proofs.reading.read_file.Goals as goal
+use Rattle.tz_cli.proofs.file_contents.read_file.Goals as goal
 
 pub returns-then-len-left-clause-refused : goal.returns-then-len-left-clause-refused
 returns-then-len-left-clause-refused g c =

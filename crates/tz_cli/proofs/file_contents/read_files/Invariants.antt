@@ -2,7 +2,7 @@ use Rattle.std.proofs.Common.{◌≡◌, ℕ, List}
 use Rattle.tz_cli.specs.NamedText.{parts_of, parts_left}
 use Rattle.tz_cli.proofs.Parts.{bytes_left}
 use Rattle.tz_cli.proofs.Contents.{HasRead}
-use Rattle.tz_cli.proofs.reading.read_files.Given as goal
+use Rattle.tz_cli.proofs.file_contents.read_files.Given as goal
 
 -- first files were read, and none of them failed
 abbrev pub invariant-loop-rest : goal.invariant-loop-rest

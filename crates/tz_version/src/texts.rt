@@ -1,5 +1,6 @@
 //! What a version's source and its leap text say.
 ghost use Rattle.std.specs.Prelude.{◌≡◌, ◌≤◌, ◌<◌, length, Some, slice_get, IsTrue, IfOk, IfErr};
+ghost use Rattle.tz_types.specs.declared.limit.TheConstants.{MOST_BYTES};
 ghost use Rattle.tz_types.specs.declared.source.Source.{Source};
 ghost use Rattle.tz_specs.specs.Reads.{Reads};
 ghost use Rattle.tz_specs.specs.LeapText.{ReadsLeaps};
@@ -13,7 +14,7 @@ use tz_types::{Db, Leaps, Source};
 
 /// The table of a leap text.
 pub fn leap_table(alloc: Global, text: &[u8]) -> Result<Leaps, MakeError>
-    requires { length text.now ≤ 4_194_304 }
+    requires { length text.now ≤ MOST_BYTES }
     ensures ok { IfOk result (λ leaps. ReadsLeaps text.now leaps) }
     ensures refused { IfErr result (λ e. MeansLeapError e text.now) }
 {
