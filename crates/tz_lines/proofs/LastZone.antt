@@ -15,6 +15,7 @@ use Rattle.tz_types.specs.declared.link.Link.{Link}
 use Rattle.tz_specs.specs.Written.{WrittenZone, written_until, written_line, written_zone, written_link}
 use Rattle.tz_specs.specs.Contents.{Contents, last_lines, wants_line, with_line}
 use Rattle.tz_database.specs.Continued.{are_continued}
+use Rattle.tz_database.proofs.LastLines.{last_at, last_is, until_some}
 use Rattle.tz_lines.specs.declared.rule_sets.RuleSets.{RuleSets}
 use Rattle.tz_lines.specs.Gathered.{sets_gathered}
 use Rattle.tz_lines.specs.LastZone.{names_of_zones, lines_of_zones, with_last_line, HasRoom}
@@ -24,27 +25,8 @@ abbrev pub contents_by : Bool → RuleSets → List Link → List WrittenZone �
 contents_by begun sets links zones =
     record { sets = sets_gathered sets; zones = zones; links = map written_link links; begun = begun }
 
-last_at : {X : Type 0} (xs : List X) → slice_get xs (length xs - 1) ≡ last_or None xs
-last_at [] = refl
-last_at (x ∷ []) = refl
-last_at (x ∷ y ∷ xs) =
-    let step : length (x ∷ y ∷ xs) - 1 ≡ suc (length (y ∷ xs) - 1) = omega arith in
-    rw step (last_at (y ∷ xs))
-
-last_map : {X Y : Type 0} (f : X → Y) (before : Option X) (xs : List X) → last_or (option_map f before) (map f xs) ≡ option_map f (last_or before xs)
-last_map f before [] = refl
-last_map f before (x ∷ xs) = last_map f (Some x) xs
-
--- the last element, by what `last` answers
-last_is : {X Y : Type 0} (f : X → Y) (xs : List X) (x : X) → Some x ≡ slice_get xs (length xs - 1) → last_or None (map f xs) ≡ Some (f x)
-last_is f xs x e = last_map f None xs ∙ ap (option_map f) (sym (last_at xs) ∙ sym e)
-
 last_lines_of : (names : List (List ℕ)) (zones : List Zone) (zone : Zone) → Some zone ≡ slice_get zones (length zones - 1) → last_lines (map (written_zone names) zones) ≡ map (written_line names) zone.lines
 last_lines_of names zones zone e = rw (last_is (written_zone names) zones zone e) refl
-
-until_some : (until : Option Until) → is_some until ≡ is_some (option_map written_until until)
-until_some None = refl
-until_some (Some until) = refl
 
 pub waits_by_line : (names : List (List ℕ)) (zones : List Zone) (zone : Zone) (line : ZoneLine) → Some zone ≡ slice_get zones (length zones - 1) → Some line ≡ slice_get zone.lines (length zone.lines - 1) → is_some line.until ≡ wants_line (last_lines (map (written_zone names) zones))
 waits_by_line names zones zone line e h =
