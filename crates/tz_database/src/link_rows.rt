@@ -1,15 +1,44 @@
 //! Links whose zones are told by hand: chains, circles, and names that are given twice.
+ghost use Rattle.std.specs.Prelude.{IsTrue, IfOk};
+ghost use Rattle.tz_types.specs.Format.{is_format};
+
 use crate::reach::zones_reached;
 use std::alloc::Global;
 use std::test::Fail;
-use tz_types::{Items, Label, Link, TextError, Zone};
+use tz_types::{
+    Abbrev, Format, Items, Label, LineRules, Link, MOST_LINKS, MOST_ZONES, TextError, Zone,
+    ZoneLine,
+};
+
+/// The format `UTC`.
+fn format() -> Result<Format, TextError>
+    ensures { IfOk result (λ format. IsTrue (is_format format)) }
+{
+    match Abbrev::new(b"UTC") {
+        Ok(text) => Ok(Format::Text(text)),
+        Err(error) => Err(error),
+    }
+}
+
+/// A line that holds over all of time, in universal time.
+fn line() -> Result<ZoneLine, TextError> {
+    Ok(ZoneLine {
+        stdoff: 0,
+        rules: LineRules::Plain,
+        format: format()?,
+        until: None,
+        line: 1,
+    })
+}
 
 fn zones_of(alloc: Global, names: &[&str]) -> Result<Vec<Zone>, Fail> {
     let mut zones = Vec::new(alloc);
     for name in names {
+        let mut lines = Items::new(alloc);
+        lines.push(line()?)?;
         zones.push(Zone {
             name: Label::new(name.as_bytes())?,
-            lines: Items::new(alloc),
+            lines,
         })?;
     }
     Ok(zones)
@@ -36,7 +65,7 @@ fn reached(
 ) -> Result<Vec<Option<u32>>, Fail> {
     let zones = zones_of(alloc, names)?;
     let links = links_of(alloc, pairs)?;
-    if zones.len() > 1024 || links.len() > 4096 {
+    if zones.len() > MOST_ZONES || links.len() > MOST_LINKS {
         return Err(Fail::from(TextError));
     }
     Ok(zones_reached(alloc, &zones, &links)?)
