@@ -27,7 +27,7 @@ use Rattle.pin_schedule.specs.declared.limits.TheConstants.{MOST_EVENTS}
 use Rattle.pin_schedule.specs.Pin.{taken_place}
 use Rattle.pin_schedule.specs.Answer.{view_of, reader_of, claimed_by}
 use Rattle.pin_schedule.specs.Schedule.{entry_at, MayTakeAt, next_write, push_of, erase_of, MayPush, push_into, MayMake, IsAllowed, after_kind, after_event}
-use Rattle.pin_schedule.specs.Progress.{Progress, reader_at, front_at, newest, word_at, counting, greatest_under, without, written, with_reader, with_pin, with_word, with_turn, with_claimed, with_write, HasReach, row_of, seen_front, progress_of, IsPlayed, Stands, CanMake}
+use Rattle.pin_schedule.specs.Progress.{Progress, reader_at, front_at, newest, word_at, counting, greatest_under, without, written, with_reader, with_pin, with_word, with_turn, with_claimed, with_write, HasReach, listed_row, seen_front, progress_of, IsPlayed, Stands, CanMake}
 use Rattle.pin_schedule.proofs.ListedLemmas.{greatest_placed, without_placed}
 use Rattle.pin_schedule.proofs.ViewLemmas.{newest_told, readers_long, fronts_long, reader_told, front_told}
 use Rattle.pin_schedule.proofs.StepLemmas.{taken_there, claimed_mine, loads_played, loads_told, pins_played, pins_told, takes_played, takes_told, misses_played, misses_told, gets_played, gets_told, claims_played, claims_told, finds_played, finds_told, stores_played, pushes_told, erases_told, gives_played, gives_told}
@@ -57,7 +57,7 @@ module _ (made room : ℕ) (s : CoreState) (played : IsPlayed made room s) (read
   front = front_told made room s played reader inside
 
   some_row : 0 < length p.listed
-  some_row = let rows = length-map (state_after s.slots s.journal).listed row_of in let some_edition = some_listed s.slots s.journal played.lawful.follows.some_slot played.lawful.follows.replay in omega arith
+  some_row = let rows = length-map (state_after s.slots s.journal).listed listed_row in let some_edition = some_listed s.slots s.journal played.lawful.follows.some_slot played.lawful.follows.replay in omega arith
 
   seen : take (length v.seen) s.journal ≡ v.seen
   seen = (played.lawful.owners.each (suc reader) v has.here (is_live reader v has.reader)).seen
@@ -117,9 +117,9 @@ module _ (made room : ℕ) (s : CoreState) (played : IsPlayed made room s) (read
       let write = next_write reader v (erase_of s after) in
       let longer = some_listed s.slots (s.journal ++ write ∷ []) played.lawful.follows.some_slot (replays_push s.slots s.journal write played.lawful.follows.replay may.allows) in
       let same : length (state_after s.slots (s.journal ++ write ∷ [])).listed ≡ length (after_write (state_after s.slots s.journal) write).listed = ap (λ (state : ListState). length state.listed) (state_after_push s.slots s.journal write) in
-      let rows : length (without (greatest_under after p.listed) p.listed) ≡ length (map row_of (after_write (state_after s.slots s.journal) write).listed) =
+      let rows : length (without (greatest_under after p.listed) p.listed) ≡ length (map listed_row (after_write (state_after s.slots s.journal) write).listed) =
       ap (λ n. length (without n p.listed)) (greatest_placed after es) ∙ ap (λ (l : List Row). length l) (without_placed (greatest_below after es) es) in
-      let long = length-map (after_write (state_after s.slots s.journal) write).listed row_of in
+      let long = length-map (after_write (state_after s.slots s.journal) write).listed listed_row in
       omega arith
 
   -- a claimed slot, and room for a write

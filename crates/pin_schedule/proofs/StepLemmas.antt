@@ -30,7 +30,7 @@ use Rattle.pin_schedule.specs.declared.row.Row.{Row}
 use Rattle.pin_schedule.specs.Pin.{is_stray_at, is_held_at, is_oldest_at, taken_place}
 use Rattle.pin_schedule.specs.Answer.{seat_of, view_of, reader_of, claimed_by}
 use Rattle.pin_schedule.specs.Schedule.{entry_at, take_at, next_write, push_of, erase_of}
-use Rattle.pin_schedule.specs.Progress.{Progress, reader_at, front_at, newest, word_at, counting, greatest_under, without, written, with_reader, with_pin, with_word, with_turn, with_claimed, with_write, row_of, seen_front, progress_of, Amounts, IsPlayed}
+use Rattle.pin_schedule.specs.Progress.{Progress, reader_at, front_at, newest, word_at, counting, greatest_under, without, written, with_reader, with_pin, with_word, with_turn, with_claimed, with_write, listed_row, seen_front, progress_of, Amounts, IsPlayed}
 use Rattle.pin_schedule.proofs.ListedLemmas.{greatest_placed, without_placed}
 use Rattle.pin_schedule.proofs.ViewLemmas.{newest_placed, newest_told, reader_told, front_told, readers_kept, fronts_kept, changed_told, claimed_here, claimed_kept, changed_played}
 
@@ -57,7 +57,7 @@ none_of : (o : Option ℕ) → ((slot : ℕ) → o ≡ Some slot → ⊥) → o 
 none_of None never = refl
 none_of (Some slot) never = absurd (never slot refl)
 
-front_placed : (slots : ℕ) (journal : List Write) → get_or (map row_of (state_after slots journal).listed) 0 record { n = 0; slot = 0 } ≡ record { n = front_number slots journal; slot = front_slot slots journal }
+front_placed : (slots : ℕ) (journal : List Write) → get_or (map listed_row (state_after slots journal).listed) 0 record { n = 0; slot = 0 } ≡ record { n = front_number slots journal; slot = front_slot slots journal }
 unfolding front_number front_slot
 front_placed slots journal = newest_placed (state_after slots journal).listed
 
@@ -318,19 +318,19 @@ module _ (made room : ℕ) (s : CoreState) (played : IsPlayed made room s) (read
     stored_reader = (λ i. record (told i) { seen = (told i).seen + 1; allowance = (told i).allowance - 1 })
         ∙ (λ i. record (reader_of v) { seen = sym (length-append v.seen (write ∷ [])) i; allowance = v.allowance - 1 })
 
-    stored_front : get_or (map row_of (state_after s.slots longer).listed) 0 record { n = 0; slot = 0 } ≡ seen_front s.slots (stored write v)
+    stored_front : get_or (map listed_row (state_after s.slots longer).listed) 0 record { n = 0; slot = 0 } ≡ seen_front s.slots (stored write v)
     stored_front = front_placed s.slots longer ∙ ap (λ (seen : List Write). record { n = front_number s.slots (seen ++ write ∷ []); slot = front_slot s.slots (seen ++ write ∷ []) }) (sym (seat.current may.turn))
 
     -- where the write and what is listed after it are those of the core
-    pub stores_told : (own : Write) (listed : List Row) (claimed : Option ℕ) → own ≡ write → listed ≡ map row_of (after_write (state_after s.slots s.journal) write).listed → claimed ≡ claimed_after v.claimed write.change
+    pub stores_told : (own : Write) (listed : List Row) (claimed : Option ℕ) → own ≡ write → listed ≡ map listed_row (after_write (state_after s.slots s.journal) write).listed → claimed ≡ claimed_after v.claimed write.change
         → record (with_write p reader own listed) { core = record (with_write p reader own listed).core { claimed = claimed } } ≡ progress_of room (store_front s (seat_of reader) v write)
     stores_told own listed claimed is lists claims =
-        let all : listed ≡ map row_of (state_after s.slots longer).listed = lists ∙ ap (λ (state : ListState). map row_of state.listed) (sym (state_after_push s.slots s.journal write)) in
+        let all : listed ≡ map listed_row (state_after s.slots longer).listed = lists ∙ ap (λ (state : ListState). map listed_row state.listed) (sym (state_after_push s.slots s.journal write)) in
         let first : get_or listed 0 record { n = 0; slot = 0 } ≡ seen_front s.slots (stored write v) = ap (λ (rows : List Row). get_or rows 0 record { n = 0; slot = 0 }) all ∙ stored_front in
         let taken : claimed ≡ claimed_by (store_front s (seat_of reader) v write) s.turn =
         claims ∙ sym (ap (claimed_by (store_front s (seat_of reader) v write)) (named s (suc reader) reader v played.lawful has may.turn) ∙ claimed_here made room s played reader inside (front_after s.slots longer) s.words s.turn longer (stored write v)) in
         let start : now s.words s.turn (s.journal ++ own ∷ []) claimed (set p.core.readers reader (record (reader_at p reader) { seen = (reader_at p reader).seen + 1; allowance = (reader_at p reader).allowance - 1 })) (set p.fronts reader (get_or listed 0 record { n = 0; slot = 0 })) listed
-        ≡ now s.words s.turn longer (claimed_by (store_front s (seat_of reader) v write) s.turn) (set p.core.readers reader (reader_of (stored write v))) (set p.fronts reader (seen_front s.slots (stored write v))) (map row_of (state_after s.slots longer).listed) =
+        ≡ now s.words s.turn longer (claimed_by (store_front s (seat_of reader) v write) s.turn) (set p.core.readers reader (reader_of (stored write v))) (set p.fronts reader (seen_front s.slots (stored write v))) (map listed_row (state_after s.slots longer).listed) =
         λ i. now s.words s.turn (s.journal ++ is i ∷ []) (taken i) (set p.core.readers reader (stored_reader i)) (set p.fronts reader (first i)) (all i) in
         start ∙ sym (changed_told made room s played reader inside (front_after s.slots longer) s.words s.turn longer (stored write v))
 

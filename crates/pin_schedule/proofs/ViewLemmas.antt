@@ -14,7 +14,7 @@ use Rattle.pin_core.specs.Step.{HasReader}
 use Rattle.pin_schedule.specs.declared.core_reader.CoreReader.{CoreReader}
 use Rattle.pin_schedule.specs.declared.row.Row.{Row}
 use Rattle.pin_schedule.specs.Answer.{view_of, reader_of, claimed_by}
-use Rattle.pin_schedule.specs.Progress.{reader_at, front_at, newest, row_of, seen_front, progress_of, Amounts, IsPlayed}
+use Rattle.pin_schedule.specs.Progress.{reader_at, front_at, newest, listed_row, seen_front, progress_of, Amounts, IsPlayed}
 
 -- ---- lists of views ----
 
@@ -35,7 +35,7 @@ elem_there [] i d low = absurd (omega arith)
 elem_there (x ∷ xs) zero d low = refl
 elem_there (x ∷ xs) (suc i) d low = elem_there xs i d (omega arith)
 
-pub newest_placed : (es : List Edition) → get_or (map row_of es) 0 record { n = 0; slot = 0 } ≡ record { n = (front_of es).n; slot = (front_of es).slot }
+pub newest_placed : (es : List Edition) → get_or (map listed_row es) 0 record { n = 0; slot = 0 } ≡ record { n = (front_of es).n; slot = (front_of es).slot }
 newest_placed [] = refl
 newest_placed (e ∷ es) = refl
 
@@ -96,7 +96,7 @@ module _ (made room : ℕ) (s : CoreState) (played : IsPlayed made room s) where
           readers = set (map reader_of (drop 1 s.views)) reader (reader_of w);
         };
         fronts = set (map (seen_front s.slots) (drop 1 s.views)) reader (seen_front s.slots w);
-        listed = map row_of (state_after s.slots journal).listed;
+        listed = map listed_row (state_after s.slots journal).listed;
       }
       changed_told =
           let readers : map reader_of (drop 1 (set s.views (suc reader) w)) ≡ set (map reader_of (drop 1 s.views)) reader (reader_of w) =
@@ -113,7 +113,7 @@ module _ (made room : ℕ) (s : CoreState) (played : IsPlayed made room s) where
               readers = readers i;
             };
             fronts = fronts i;
-            listed = map row_of (state_after s.slots journal).listed;
+            listed = map listed_row (state_after s.slots journal).listed;
           }
 
       -- the claimed slot is that of the turn's holder

@@ -134,8 +134,8 @@ pub record HasReach (p : Progress) (reader : ℕ) : Type 0 where
 -- ---- how it stands to a state ----
 
 -- the row of a version, as it is kept at hand
-abbrev pub row_of : Edition → Row
-row_of e = record { n = e.n; slot = e.slot }
+abbrev pub listed_row : Edition → Row
+listed_row e = record { n = e.n; slot = e.slot }
 
 -- the front that the reader has seen last
 abbrev pub seen_front : ℕ → View → Row
@@ -147,7 +147,7 @@ progress_of room s = record {
   room = room;
   core = core_of s;
   fronts = map (seen_front s.slots) (drop 1 s.views);
-  listed = map row_of (state_after s.slots s.journal).listed;
+  listed = map listed_row (state_after s.slots s.journal).listed;
 }
 
 -- what the reader's tallies and writes amount to, after so many events

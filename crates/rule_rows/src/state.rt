@@ -2,6 +2,7 @@
 ghost use Rattle.std.specs.Prelude.{◌≡◌, ◌≤◌, ◌++◌, pos, ◌-ℤ◌, List, ◌∷◌, ℤ, length, neg_ℤ, IfOk};
 ghost use Rattle.jiff_core.specs.Calendar.{IsBetween};
 ghost use Rattle.std.specs.List.{All};
+ghost use Rattle.tz_types.specs.declared.limit.TheConstants.{LONGEST_OFFSET};
 ghost use Rattle.tz_types.specs.Amount.{IsShift};
 ghost use Rattle.tz_specs.specs.Occurrence.{Occurrence, nominal_of};
 ghost use Rattle.tz_specs.specs.State.{shift, instants, instants_from, state_at};
@@ -15,7 +16,7 @@ fn shift_of(kind: AtKind, stdoff: i64, save: i64) -> i64
     requires stdoff_in { IsShift stdoff }
     requires save_in { IsShift save }
     ensures value { result ≡ shift kind stdoff save }
-    ensures bound { IsBetween (neg_ℤ (pos 172_800)) (pos 172_800) result }
+    ensures bound { IsBetween (neg_ℤ (pos LONGEST_OFFSET)) (pos LONGEST_OFFSET) result }
 {
     match kind {
         AtKind::Universal => 0,

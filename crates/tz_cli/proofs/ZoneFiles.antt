@@ -16,6 +16,7 @@ use Rattle.tz_lines.specs.Locate.{located}
 use Rattle.tz_expand.specs.declared.compiled_zone.CompiledZone.{CompiledZone}
 use Rattle.tz_expand.specs.Zone.{expansion_of}
 use Rattle.tz_expand.specs.Stretch.{IsStretch, meets}
+use Rattle.tz_tzif.specs.declared.types.TheConstants.{MOST_TYPES}
 use Rattle.tz_tzif.specs.Types.{merged, types_of}
 use Rattle.tz_tzif.specs.Answer.{Answers, far_index}
 use Rattle.tz_tzif.specs.declared.local_type.LocalType.{LocalType}
@@ -78,7 +79,7 @@ one_list : (first last : ℤ) (a b : CompiledZone) → expansion_of a ≡ expans
 one_list first last a b same =
     ap (λ (ranges : List SysInfo). types_of (merged (filter (meets (year_start first) (year_start (last +ℤ pos 1))) ranges))) same
 
-too_many : (few many : List LocalType) → few ≡ many → length few ≤ 256 → 256 < length many → ⊥
+too_many : (few many : List LocalType) → few ≡ many → length few ≤ MOST_TYPES → MOST_TYPES < length many → ⊥
 too_many few many same low high =
     let long : length few ≡ length many = ap length same in
     omega (arith, long, low, high)

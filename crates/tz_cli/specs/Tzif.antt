@@ -1,5 +1,6 @@
 -- What `tzif` answers over a source.
-use Rattle.std.specs.Prelude.{◌≡◌, ℕ, ◌<◌, ◌↔◌, List, length, Some, None, IsSome, codes, ℤ, pos, neg_ℤ, ◌+ℤ◌, ◌≤ℤ◌, ◌<ℤ◌}
+use Rattle.std.specs.Prelude.{◌≡◌, ℕ, ◌<◌, ◌↔◌, List, length, Some, None, IsSome, codes, ℤ, pos, neg_ℤ, ◌+ℤ◌, ◌≤ℤ◌, ◌<ℤ◌, ◌-◌}
+use Rattle.tz_types.specs.declared.limit.TheConstants.{LAST_RULE_YEAR}
 use Rattle.tz_types.specs.Calendar.{year_start}
 use Rattle.tz_types.specs.declared.range.SysInfo.{SysInfo}
 use Rattle.tz_types.specs.declared.source.Source.{Source}
@@ -11,6 +12,7 @@ use Rattle.tz_tzif.specs.Types.{type_of, merged, AreFew, types_of}
 use Rattle.tz_tzif.specs.File.{spelling}
 use Rattle.tz_tzif.specs.Answer.{far_index}
 use Rattle.tz_tzif.specs.Meaning.{IsMeaning}
+use Rattle.tz_tzif.specs.declared.types.TheConstants.{MOST_TYPES}
 use Rattle.tz_tzif.specs.declared.local_type.LocalType.{LocalType}
 use Rattle.tz_tzif.specs.declared.tzif_error.TzifError.{TzifError}
 use Rattle.tz_tzif.specs.declared.tzif_error.TzifError.TheVariants as errors
@@ -20,11 +22,11 @@ use Rattle.tz_cli.specs.declared.refusal.Refusal.TheVariants as refusals
 use Rattle.tz_cli.specs.declared.status.Status.{Status}
 use Rattle.tz_cli.specs.declared.status.Status.TheVariants as statuses
 
--- The years are in order, and so are those of texts with the year behind them, -9998 to 9998.
+-- The years are in order, and each of them, and the year behind them, is one in which rules may occur.
 pub record AreYears (first last : ℤ) : Type 0 where
-  pub begins : neg_ℤ (pos 9_998) ≤ℤ first
+  pub begins : neg_ℤ (pos LAST_RULE_YEAR) ≤ℤ first
   pub ordered : first ≤ℤ last
-  pub ends : last ≤ℤ pos 9_997
+  pub ends : last ≤ℤ pos (LAST_RULE_YEAR - 1)
 
 -- the ranges of the zone that meet the years from their first midnight to that of the year behind them
 abbrev pub ranges_of_years : ℤ → ℤ → CompiledZone → List SysInfo
@@ -50,7 +52,7 @@ IsFileOf first last zone statuses.Ok file =
     AreFew types × (far_index types ≡ None) × (file ≡ spelling (year_start first) (ranges_of_years first last zone))
     × MeansYears first last zone file
 IsFileOf first last zone statuses.Types line =
-    (256 < length (types_of_years first last zone)) × (line ≡ codes "types\n")
+    (MOST_TYPES < length (types_of_years first last zone)) × (line ≡ codes "types\n")
 IsFileOf first last zone statuses.Designations line =
     let types = types_of_years first last zone in
     AreFew types × IsSome (far_index types) × (line ≡ codes "designations\n")

@@ -11,14 +11,14 @@ use crate::named_zone::named_zone;
 use crate::refusal::Refusal;
 use std::alloc::Global;
 use tz_expand::CompiledZone;
-use tz_types::{Source, civil_seconds};
+use tz_types::{LAST_RULE_YEAR, Source, civil_seconds};
 use tz_tzif::TzifError;
 
 /// The first year that a file may begin with.
-const FIRST_YEAR: i32 = -9_998;
+const FIRST_YEAR: i32 = -(LAST_RULE_YEAR as i32);
 
-/// The last year that it may end with.
-const LAST_YEAR: i32 = 9_997;
+/// The last year that it may end with: the year behind it has a midnight too.
+const LAST_YEAR: i32 = LAST_RULE_YEAR as i32 - 1;
 
 /// The second at which a civil year begins.
 fn year_start(year: i32) -> i64

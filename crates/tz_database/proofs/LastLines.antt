@@ -8,22 +8,22 @@ use Rattle.tz_types.specs.declared.cause.Cause.TheVariants as causes
 use Rattle.tz_specs.specs.Written.{written_until, written_line, written_zone}
 use Rattle.tz_specs.specs.Whole.{fault_where, missing_continuation}
 
-last_at : {X : Type 0} (xs : List X) → slice_get xs (length xs - 1) ≡ last_or None xs
+pub last_at : {X : Type 0} (xs : List X) → slice_get xs (length xs - 1) ≡ last_or None xs
 last_at [] = refl
 last_at (x ∷ []) = refl
 last_at (x ∷ y ∷ xs) =
     let step : length (x ∷ y ∷ xs) - 1 ≡ suc (length (y ∷ xs) - 1) = omega arith in
     rw step (last_at (y ∷ xs))
 
-last_map : {X Y : Type 0} (f : X → Y) (before : Option X) (xs : List X) → last_or (option_map f before) (map f xs) ≡ option_map f (last_or before xs)
+pub last_map : {X Y : Type 0} (f : X → Y) (before : Option X) (xs : List X) → last_or (option_map f before) (map f xs) ≡ option_map f (last_or before xs)
 last_map f before [] = refl
 last_map f before (x ∷ xs) = last_map f (Some x) xs
 
 -- the last element, by what `last` answers
-last_is : {X Y : Type 0} (f : X → Y) (xs : List X) (x : X) → Some x ≡ slice_get xs (length xs - 1) → last_or None (map f xs) ≡ Some (f x)
+pub last_is : {X Y : Type 0} (f : X → Y) (xs : List X) (x : X) → Some x ≡ slice_get xs (length xs - 1) → last_or None (map f xs) ≡ Some (f x)
 last_is f xs x e = last_map f None xs ∙ ap (option_map f) (sym (last_at xs) ∙ sym e)
 
-until_some : (until : Option Until) → is_some until ≡ is_some (option_map written_until until)
+pub until_some : (until : Option Until) → is_some until ≡ is_some (option_map written_until until)
 until_some None = refl
 until_some (Some until) = refl
 

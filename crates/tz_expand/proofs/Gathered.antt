@@ -3,6 +3,7 @@ use Rattle.std.proofs.Common.{◌≡◌, ℕ, zero, suc, ◌<◌, ◌⊎◌, inl
 use Rattle.std.specs.List.Sorted.{IsPermutation}
 use Rattle.std.proofs.lemmas.Int.{ints, by_lt_z}
 use Rattle.std.proofs.lemmas.List.Sorted.{IsPermutation-sym, Contains-permutation}
+use Rattle.tz_types.specs.declared.limit.TheConstants.{LONGEST_OFFSET}
 use Rattle.tz_types.specs.declared.rule.Rule.{Rule}
 use Rattle.tz_types.specs.declared.rule_set.RuleSet.{RuleSet}
 use Rattle.tz_types.specs.Year.{IsRuleYear}
@@ -23,13 +24,13 @@ pub record Earlier (list : List Occurrence) (from : ℤ) (o : Occurrence) : Type
   pub second_in : In second list
   pub before : Before o first
   pub rising : Before first second
-  pub come : nominal_of second ≤ℤ (from -ℤ pos 172_800)
+  pub come : nominal_of second ≤ℤ (from -ℤ pos LONGEST_OFFSET)
 
 -- one of its rule before it comes more than two days after the stretch
 pub record Later (list : List Occurrence) (to : ℤ) (o : Occurrence) : Type 0 where
   pub first : Occurrence
   pub first_in : In first list
-  pub after : (to +ℤ pos 172_800) <ℤ nominal_of first
+  pub after : (to +ℤ pos LONGEST_OFFSET) <ℤ nominal_of first
   pub apart : (nominal_of first +ℤ pos 30_240_000) ≤ℤ nominal_of o
 
 pub record Gathers (set : RuleSet) (from to : ℤ) (list : List Occurrence) : Type 0 where

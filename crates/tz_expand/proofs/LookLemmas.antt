@@ -9,16 +9,17 @@ use Rattle.std.proofs.lemmas.Int.{ints, clamps, by_lt_z}
 use Rattle.std.proofs.lemmas.Bool.{cases_order}
 use Rattle.jiff_core.specs.Calendar.{IsYear}
 use Rattle.jiff_core.proofs.SignedLemmas.{signed_arith}
-use Rattle.tz_types.specs.declared.calendar.Month.TheVariants as months
+use Rattle.tz_types.specs.declared.limit.TheConstants.{LONGEST_OFFSET}
 use Rattle.tz_types.specs.declared.rule.Rule.{Rule}
-use Rattle.tz_types.specs.Calendar.{year_start, LiesInYear}
+use Rattle.tz_types.specs.Calendar.{LiesInYear}
 use Rattle.tz_types.specs.Year.{IsRuleYear}
 use Rattle.tz_specs.specs.Occurrence.{Occurrence, nominal_second}
 use Rattle.tz_specs.proofs.Tests.{le-int_lt, lt-int_lt}
 use Rattle.tz_specs.proofs.ListLemmas.{In, In-append_cases, In-append_left, In-append_right}
-use Rattle.tz_specs.proofs.DayLemmas.{civil_day_rises, nominal_near}
+use Rattle.tz_specs.proofs.DayLemmas.{nominal_near}
 use Rattle.tz_specs.proofs.OccurrenceLemmas.{natural_of}
 use Rattle.tz_specs.proofs.YearLemmas.{lies_once}
+use Rattle.tz_rules.proofs.YearBounds.{starts_apart, starts_rise}
 use Rattle.tz_expand.specs.Stretch.{TouchesYears}
 use Rattle.tz_expand.specs.Looks.{since, through, first_look, last_look, years_through, looks_from, looks_count, IsSpan, AreYearsNear}
 
@@ -117,16 +118,6 @@ few_looks s t a b first last first_is last_is apart =
     (λ rises. omega (arith, ints, clamps, years_through_is first last rises))
 
 -- ---- years and their seconds
-pub starts_apart : (year later : ℤ) → neg_ℤ (pos 10_000) ≤ℤ year → year <ℤ later → (year_start year +ℤ pos 31_536_000) ≤ℤ year_start later
-starts_apart year later low after =
-    omega (arith, signed_arith, civil_day_rises year later months.January 1 1 low after (omega arith) (omega arith))
-
-pub starts_rise : (year later : ℤ) → neg_ℤ (pos 10_000) ≤ℤ year → year ≤ℤ later → year_start year ≤ℤ year_start later
-starts_rise year later low after =
-    by_lt_z year later
-    (λ lt. let apart = starts_apart year later low lt in omega (arith, signed_arith))
-    (λ le. let same : year ≡ later = omega (arith, signed_arith) in rw same (omega (arith, signed_arith)))
-
 pub years_rise : (t later year later_year : ℤ) → IsYear year → IsYear later_year → LiesInYear t year → LiesInYear later later_year → t ≤ℤ later → year ≤ℤ later_year
 years_rise t later year later_year year_in later_in lies later_lies rises =
     by_lt_z later_year year
@@ -153,7 +144,7 @@ is_span from to before year later_year first last before_is rises first_is last_
     }
 
 -- an occurrence of a year before the stretch's has come two days before it begins
-pub come_before : (rule : Rule) (from year first : ℤ) → rule.from ≤ℤ year → year ≤ℤ rule.to → IsRuleYear year → LiesInYear from (first +ℤ pos 3) → year ≤ℤ (first +ℤ pos 1) → first ≤ℤ pos 10_010 → nominal_second year rule.moment ≤ℤ (from -ℤ pos 172_800)
+pub come_before : (rule : Rule) (from year first : ℤ) → rule.from ≤ℤ year → year ≤ℤ rule.to → IsRuleYear year → LiesInYear from (first +ℤ pos 3) → year ≤ℤ (first +ℤ pos 1) → first ≤ℤ pos 10_010 → nominal_second year rule.moment ≤ℤ (from -ℤ pos LONGEST_OFFSET)
 come_before rule from year first low high within lies before bound =
     let near = nominal_near rule year (year +ℤ pos 1) within low high refl in
     let apart = starts_apart (year +ℤ pos 1) (first +ℤ pos 3) (omega (arith, signed_arith, within)) (omega (arith, signed_arith)) in
@@ -161,7 +152,7 @@ come_before rule from year first low high within lies before bound =
     omega (arith, signed_arith, near.1, apart, begun)
 
 -- and one of a year behind the stretch's comes more than two days after it ends
-pub comes_after : (rule : Rule) (to year last : ℤ) → rule.from ≤ℤ year → year ≤ℤ rule.to → IsRuleYear year → LiesInYear (to -ℤ pos 1) (last -ℤ pos 2) → last ≤ℤ year → neg_ℤ (pos 9_998) ≤ℤ last → (to +ℤ pos 172_800) <ℤ nominal_second year rule.moment
+pub comes_after : (rule : Rule) (to year last : ℤ) → rule.from ≤ℤ year → year ≤ℤ rule.to → IsRuleYear year → LiesInYear (to -ℤ pos 1) (last -ℤ pos 2) → last ≤ℤ year → neg_ℤ (pos 9_998) ≤ℤ last → (to +ℤ pos LONGEST_OFFSET) <ℤ nominal_second year rule.moment
 comes_after rule to year last low high within lies after bound =
     let near = nominal_near rule year (year +ℤ pos 1) within low high refl in
     let apart = starts_apart ((last -ℤ pos 2) +ℤ pos 1) last (omega (arith, signed_arith)) (omega (arith, signed_arith)) in

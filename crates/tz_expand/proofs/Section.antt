@@ -5,6 +5,7 @@ use Rattle.std.proofs.lemmas.Int.{ints, by_lt_z}
 use Rattle.std.proofs.lemmas.Bool.{cases_order, cases_lt, false_from_ne_true}
 use Rattle.std.proofs.lemmas.Option.{same_Some, slice_get_read}
 use Rattle.jiff_core.specs.Calendar.{IsWithin}
+use Rattle.tz_types.specs.declared.limit.TheConstants.{LONGEST_OFFSET}
 use Rattle.tz_types.specs.Amount.{IsShift}
 use Rattle.tz_types.specs.declared.moment.AtKind.{AtKind}
 use Rattle.tz_types.specs.declared.moment.AtKind.TheVariants as kinds
@@ -20,10 +21,10 @@ use Rattle.tz_expand.proofs.Strict.{Before, place_before}
 use Rattle.tz_expand.proofs.Gathered.{Earlier, Later, Gathers}
 
 abbrev pub early : ℤ → ℤ
-early from = from -ℤ pos 172_800
+early from = from -ℤ pos LONGEST_OFFSET
 
 abbrev pub late : ℤ → ℤ
-late to = to +ℤ pos 172_800
+late to = to +ℤ pos LONGEST_OFFSET
 
 -- the occurrences of a set near a stretch, strictly in order
 pub record Section (set : RuleSet) (stdoff from to : ℤ) (list : List Occurrence) : Type 0 where
@@ -223,7 +224,7 @@ save_is set stdoff from to list (suc k) x save section at here near has =
       has.2,
     )
 
-shift_near : (kind : AtKind) (stdoff save : ℤ) → IsShift stdoff → IsShift save → IsWithin 172_800 (shift kind stdoff save)
+shift_near : (kind : AtKind) (stdoff save : ℤ) → IsShift stdoff → IsShift save → IsWithin LONGEST_OFFSET (shift kind stdoff save)
 shift_near kinds.Universal stdoff save here there = (omega (arith, ints), omega (arith, ints))
 shift_near kinds.Standard stdoff save here there = (omega (arith, ints, here), omega (arith, ints, here))
 shift_near kinds.Wall stdoff save here there = (omega (arith, ints, here, there), omega (arith, ints, here, there))
@@ -236,7 +237,7 @@ save_near list (suc k) save has =
     rw has.2 within
 
 -- the instant at a place lies within two days of the nominal second there
-pub computed_near : (stdoff : ℤ) (list : List Occurrence) (i : ℕ) (x : Occurrence) (u : ℤ) → IsShift stdoff → slice_get list i ≡ Some x → slice_get (instants stdoff list) i ≡ Some u → IsWithin 172_800 (u -ℤ nominal_of x)
+pub computed_near : (stdoff : ℤ) (list : List Occurrence) (i : ℕ) (x : Occurrence) (u : ℤ) → IsShift stdoff → slice_get list i ≡ Some x → slice_get (instants stdoff list) i ≡ Some u → IsWithin LONGEST_OFFSET (u -ℤ nominal_of x)
 computed_near stdoff list i x u within here there =
     let its = instants-get stdoff (pos 0) list i x here in
     let near = shift_near x.rule.moment.kind stdoff its.0 within (save_near list i its.0 its.1) in
@@ -274,7 +275,7 @@ pub record ComesFirst (set : RuleSet) (stdoff : ℤ) (list : List Occurrence) (t
   pub instant : ℤ
   pub there : slice_get (instants stdoff list) found.place ≡ Some instant
   pub comes : ComesAt set stdoff found.occurrence instant
-  pub near : IsWithin 172_800 (instant -ℤ nominal_of found.occurrence)
+  pub near : IsWithin LONGEST_OFFSET (instant -ℤ nominal_of found.occurrence)
 
 first_at_base : (set : RuleSet) (stdoff from to : ℤ) (list : List Occurrence) → Section set stdoff from to list → (found : FirstAfter list to) → AtBase list from found.place
 first_at_base set stdoff from to list section found =

@@ -5,7 +5,7 @@ use Rattle.std.proofs.lemmas.Int.{ints}
 use Rattle.std.proofs.lemmas.Bool.{leb-true}
 use Rattle.jiff_core.specs.Calendar.{IsWithin}
 use Rattle.tz_types.specs.Amount.{IsShift}
-use Rattle.tz_types.specs.declared.limit.TheConstants.{LONGEST_SHIFT}
+use Rattle.tz_types.specs.declared.limit.TheConstants.{LONGEST_SHIFT, LONGEST_OFFSET}
 use Rattle.tz_types.specs.declared.range.SysInfo.{SysInfo}
 use Rattle.tz_specs.specs.Occurrence.{Occurrence, occurrences}
 use Rattle.tz_specs.specs.State.{InForce, instants, state_at, in_force}
@@ -49,7 +49,7 @@ state_small period t small =
     (λ save daylight e. let within = rw e at small in rw e within)
     (λ set e. rw e (in_force_small (occurrences set) (state_at (instants period.stdoff (occurrences set)) t)))
 
-range_small : (period : Period) (begin end : ℤ) → IsShift period.stdoff → HasSmallSave period.following → IsWithin 172_800 (range_of period begin end).offset
+range_small : (period : Period) (begin end : ℤ) → IsShift period.stdoff → HasSmallSave period.following → IsWithin LONGEST_OFFSET (range_of period begin end).offset
 range_small period begin end here small =
     let save = state_small period begin small in
     (omega (arith, ints, here, save), omega (arith, ints, here, save))
@@ -63,13 +63,13 @@ rules_small rules.Plain small = tt
 rules_small (rules.Fixed save daylight) small = abs_small save (leb-true (unsigned_abs save) LONGEST_SHIFT small)
 rules_small (rules.Set set) small = tt
 
-line_small : (line : CompiledLine) (range : SysInfo) → IsRangeOf (period_of line) range → IsWithin 172_800 range.offset
+line_small : (line : CompiledLine) (range : SysInfo) → IsRangeOf (period_of line) range → IsWithin LONGEST_OFFSET range.offset
 line_small line range is =
     let small = range_small (period_of line) range.begin range.end line.stdoff_in (rules_small line.rules line.save_in) in
     let told : range.offset ≡ (range_of (period_of line) range.begin range.end).offset = ap (λ (r : SysInfo). r.offset) is.told in
     rw told small
 
-pub offset_near : (zone : CompiledZone) (range : SysInfo) → In range (expansion_of zone) → IsWithin 172_800 range.offset
+pub offset_near : (zone : CompiledZone) (range : SysInfo) → In range (expansion_of zone) → IsWithin LONGEST_OFFSET range.offset
 offset_near zone range has =
     let lines = periods zone.lines in
     let chain = leads-chains first_instant end_of_time lines zone.covers in

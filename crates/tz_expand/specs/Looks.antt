@@ -3,6 +3,7 @@
 use Rattle.std.specs.Prelude.{◌≡◌, ℕ, zero, suc, ◌+◌, if◌then◌else◌, List, [], ◌∷◌, ◌++◌, flat_map, ℤ, pos, neg_ℤ, ◌+ℤ◌, ◌-ℤ◌, ◌≤ℤ◌, int_lt, unsigned_abs, Some, slice_get}
 use Rattle.std.specs.Int.{int_min, int_max}
 use Rattle.std.specs.List.Sorted.{IsPermutation, IsSortedBy}
+use Rattle.tz_types.specs.declared.limit.TheConstants.{LAST_RULE_YEAR}
 use Rattle.tz_types.specs.declared.rule.Rule.{Rule}
 use Rattle.tz_types.specs.declared.rule_set.RuleSet.{RuleSet}
 use Rattle.tz_types.specs.Calendar.{LiesInYear}
@@ -10,12 +11,12 @@ use Rattle.tz_specs.specs.Occurrence.{Occurrence, precedes}
 use Rattle.tz_specs.specs.Until.{Rules}
 use Rattle.tz_specs.specs.Expansion.{Period}
 
--- the years in which a rule occurs: from its FROM to its TO, and from -9998 to 9998
+-- the years in which a rule occurs: from its FROM to its TO, and from -LAST_RULE_YEAR to LAST_RULE_YEAR
 abbrev pub since : Rule → ℤ
-since rule = int_max rule.from (neg_ℤ (pos 9998))
+since rule = int_max rule.from (neg_ℤ (pos LAST_RULE_YEAR))
 
 abbrev pub through : Rule → ℤ
-through rule = int_min rule.to (pos 9998)
+through rule = int_min rule.to (pos LAST_RULE_YEAR)
 
 -- the first and the last year of a rule that are looked at, where these years are near the stretch
 abbrev pub first_look : Rule → ℤ → ℤ

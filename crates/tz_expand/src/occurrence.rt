@@ -1,6 +1,7 @@
 //! Occurrences as values: rules in their years, each with its nominal second.
 ghost use Rattle.std.specs.Prelude.{◌≡◌, ◌+◌, ◌≤ℤ◌, ◌-ℤ◌, pos, neg_ℤ};
 ghost use Rattle.jiff_core.specs.Calendar.{IsBetween};
+ghost use Rattle.tz_types.specs.declared.limit.TheConstants.{LONGEST_OFFSET};
 ghost use Rattle.tz_types.specs.Amount.{IsShift};
 ghost use Rattle.tz_types.specs.Year.{IsRuleYear};
 ghost use Rattle.tz_specs.specs.Occurrence.{nominal_of};
@@ -86,7 +87,7 @@ fn shift_of(kind: AtKind, stdoff: i64, save: i64) -> i64
     requires stdoff_in { IsShift stdoff }
     requires save_in { IsShift save }
     ensures value { result ≡ shift kind stdoff save }
-    ensures bound { IsBetween (neg_ℤ (pos 172_800)) (pos 172_800) result }
+    ensures bound { IsBetween (neg_ℤ (pos LONGEST_OFFSET)) (pos LONGEST_OFFSET) result }
 {
     match kind {
         AtKind::Universal => 0,

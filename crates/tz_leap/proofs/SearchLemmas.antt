@@ -8,6 +8,7 @@ use Rattle.std.proofs.lemmas.Int.{ints, by_lt_z, to_z-of_z}
 use Rattle.std.proofs.lemmas.Bool.{cases_Bool}
 use Rattle.std.proofs.lemmas.List.{get_or_default}
 use Rattle.std.proofs.lemmas.List.Sums.{sum_by-cons}
+use Rattle.tz_types.specs.declared.limit.TheConstants.{MOST_LEAPS}
 use Rattle.tz_types.specs.Order.{ascends}
 use Rattle.jiff_core.specs.Calendar.{IsWithin}
 use Rattle.tz_types.specs.Leap.{sum_where, running_sums}
@@ -149,9 +150,9 @@ sum_looked_up sums xs k is within =
 pub place_of_sum : (sums : List ℤ) (xs : List LeapEntry) (k : ℕ) → sums ≡ running_sums (pos 0) xs → k ≤ length xs → k < length sums
 place_of_sum sums xs k is within = rw is (omega (arith, length-running_sums (pos 0) xs, within))
 
-pub sum_within : (xs : List LeapEntry) (k : ℕ) → length xs ≤ 1_024 → k ≤ length xs → IsWithin 1_024 (all_seconds (take k xs))
+pub sum_within : (xs : List LeapEntry) (k : ℕ) → length xs ≤ MOST_LEAPS → k ≤ length xs → IsWithin MOST_LEAPS (all_seconds (take k xs))
 sum_within xs k few within =
     rw (all_seconds_take xs k) (omega (arith, ints, sum_to_low xs k, few, within), omega (arith, ints, sum_to_high xs k, few, within))
 
-pub all_within : (xs : List LeapEntry) → length xs ≤ 1_024 → all_seconds xs ≤ℤ pos 1_024
+pub all_within : (xs : List LeapEntry) → length xs ≤ MOST_LEAPS → all_seconds xs ≤ℤ pos MOST_LEAPS
 all_within xs few = rw (← all_taken xs) (sum_within xs (length xs) few (omega arith)).1

@@ -2,6 +2,7 @@
 //! before a place add is looked up, and not summed.
 ghost use Rattle.std.specs.Prelude.{◌≡◌, ◌≤◌, ◌<◌, length, map, take, slice_index_or, count_by, int_lt, int_le, pos, if◌then◌else◌, IsTrue};
 ghost use Rattle.jiff_core.specs.Calendar.{IsWithin};
+ghost use Rattle.tz_types.specs.declared.limit.TheConstants.{MOST_LEAPS};
 ghost use Rattle.tz_types.specs.Order.{ascends};
 ghost use Rattle.tz_types.specs.Leap.{sum_where};
 ghost use Rattle.tz_types.specs.declared.leap_entry.LeapEntry.{LeapEntry};
@@ -13,7 +14,7 @@ use tz_types::{LeapEntry, Leaps};
 pub(crate) fn sum_before(leaps: &Leaps, place: usize) -> i64
     requires { place ≤ length leaps.now.entries }
     ensures value { result ≡ all_seconds (take place leaps.now.entries) }
-    ensures bound { IsWithin 1_024 result }
+    ensures bound { IsWithin MOST_LEAPS result }
 {
     leaps.sums.as_slice()[place]
 }
@@ -21,7 +22,7 @@ pub(crate) fn sum_before(leaps: &Leaps, place: usize) -> i64
 /// How many seconds all entries add.
 pub(crate) fn sum_of_all(leaps: &Leaps) -> i64
     ensures value { result ≡ all_seconds leaps.now.entries }
-    ensures bound { IsWithin 1_024 result }
+    ensures bound { IsWithin MOST_LEAPS result }
 {
     sum_before(leaps, leaps.entries.len())
 }
@@ -42,7 +43,7 @@ fn entries_by(entries: &[LeapEntry], t: i64) -> usize
 /// How many seconds the entries at or before the system time add.
 pub(crate) fn added_by(leaps: &Leaps, t: i64) -> i64
     ensures value { result ≡ sum_where (λ entry. int_le entry.date t) leaps.now.entries }
-    ensures bound { IsWithin 1_024 result }
+    ensures bound { IsWithin MOST_LEAPS result }
 {
     sum_before(leaps, entries_by(leaps.entries.as_slice(), t))
 }

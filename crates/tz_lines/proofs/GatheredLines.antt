@@ -10,7 +10,7 @@ use Rattle.tz_specs.specs.Written.{Record}
 use Rattle.tz_specs.specs.Contents.{Contents, waits, no_contents, with_said, line_says, contents_after, at_end_of_file, contents_over, contents_of}
 use Rattle.tz_records.specs.Counts.{exceeds_said, count_causes}
 use Rattle.tz_records.specs.LineAlone.{SaysAlone, RefusesAlone}
-use Rattle.tz_lines.specs.Gathering.{MeansLineFault}
+use Rattle.tz_lines.specs.Refusal.{MeansLineFault}
 use Rattle.tz_lines.specs.declared.error.LineError.{LineError}
 use Rattle.tz_lines.specs.declared.error.LineError.TheVariants as errors
 

@@ -15,36 +15,18 @@ use Rattle.tz_types.specs.declared.link.Link.{Link}
 use Rattle.tz_specs.specs.Written.{WrittenZone, written_until, written_line, written_zone, written_link}
 use Rattle.tz_specs.specs.Contents.{Contents, last_lines, wants_line, with_line}
 use Rattle.tz_database.specs.Continued.{are_continued}
+use Rattle.tz_database.proofs.LastLines.{last_at, last_is, until_some}
 use Rattle.tz_lines.specs.declared.rule_sets.RuleSets.{RuleSets}
 use Rattle.tz_lines.specs.Gathered.{sets_gathered}
-use Rattle.tz_lines.specs.LastZone.{zone_names, zone_lines, with_last_line, HasRoom}
+use Rattle.tz_lines.specs.LastZone.{names_of_zones, lines_of_zones, with_last_line, HasRoom}
 
 -- the contents of sets and links as they stand, and of zones as they are written
 abbrev pub contents_by : Bool → RuleSets → List Link → List WrittenZone → Contents
 contents_by begun sets links zones =
     record { sets = sets_gathered sets; zones = zones; links = map written_link links; begun = begun }
 
-last_at : {X : Type 0} (xs : List X) → slice_get xs (length xs - 1) ≡ last_or None xs
-last_at [] = refl
-last_at (x ∷ []) = refl
-last_at (x ∷ y ∷ xs) =
-    let step : length (x ∷ y ∷ xs) - 1 ≡ suc (length (y ∷ xs) - 1) = omega arith in
-    rw step (last_at (y ∷ xs))
-
-last_map : {X Y : Type 0} (f : X → Y) (before : Option X) (xs : List X) → last_or (option_map f before) (map f xs) ≡ option_map f (last_or before xs)
-last_map f before [] = refl
-last_map f before (x ∷ xs) = last_map f (Some x) xs
-
--- the last element, by what `last` answers
-last_is : {X Y : Type 0} (f : X → Y) (xs : List X) (x : X) → Some x ≡ slice_get xs (length xs - 1) → last_or None (map f xs) ≡ Some (f x)
-last_is f xs x e = last_map f None xs ∙ ap (option_map f) (sym (last_at xs) ∙ sym e)
-
 last_lines_of : (names : List (List ℕ)) (zones : List Zone) (zone : Zone) → Some zone ≡ slice_get zones (length zones - 1) → last_lines (map (written_zone names) zones) ≡ map (written_line names) zone.lines
 last_lines_of names zones zone e = rw (last_is (written_zone names) zones zone e) refl
-
-until_some : (until : Option Until) → is_some until ≡ is_some (option_map written_until until)
-until_some None = refl
-until_some (Some until) = refl
 
 pub waits_by_line : (names : List (List ℕ)) (zones : List Zone) (zone : Zone) (line : ZoneLine) → Some zone ≡ slice_get zones (length zones - 1) → Some line ≡ slice_get zone.lines (length zone.lines - 1) → is_some line.until ≡ wants_line (last_lines (map (written_zone names) zones))
 waits_by_line names zones zone line e h =
@@ -56,21 +38,21 @@ full_by_lines names zones zone e =
 
 -- with one more line, where the last is lent and written back
 
-pub names_set : (zones : List Zone) (place : ℕ) (old new : Zone) → place < length zones → old ≡ get_or zones place old → new.name ≡ old.name → zone_names (set zones place new) ≡ zone_names zones
+pub names_set : (zones : List Zone) (place : ℕ) (old new : Zone) → place < length zones → old ≡ get_or zones place old → new.name ≡ old.name → names_of_zones (set zones place new) ≡ names_of_zones zones
 names_set [] place old new within is named = absurd (omega arith)
 names_set (zone ∷ zones) zero old new within is named =
-    ap (λ (name : List ℕ). name ∷ zone_names zones) (named ∙ ap (λ (it : Zone). it.name) is)
+    ap (λ (name : List ℕ). name ∷ names_of_zones zones) (named ∙ ap (λ (it : Zone). it.name) is)
 names_set (zone ∷ zones) (suc place) old new within is named =
     ap (λ (names : List (List ℕ)). zone.name ∷ names) (names_set zones place old new (omega arith) is named)
 
-pub lines_set : (zones : List Zone) (place : ℕ) (old new : Zone) → place < length zones → old ≡ get_or zones place old → new.lines ≡ old.lines → zone_lines (set zones place new) ≡ zone_lines zones
+pub lines_set : (zones : List Zone) (place : ℕ) (old new : Zone) → place < length zones → old ≡ get_or zones place old → new.lines ≡ old.lines → lines_of_zones (set zones place new) ≡ lines_of_zones zones
 lines_set [] place old new within is same = absurd (omega arith)
 lines_set (zone ∷ zones) zero old new within is same =
-    ap (λ (lines : List ZoneLine). lines ∷ zone_lines zones) (same ∙ ap (λ (it : Zone). it.lines) is)
+    ap (λ (lines : List ZoneLine). lines ∷ lines_of_zones zones) (same ∙ ap (λ (it : Zone). it.lines) is)
 lines_set (zone ∷ zones) (suc place) old new within is same =
     ap (λ (others : List (List ZoneLine)). zone.lines ∷ others) (lines_set zones place old new (omega arith) is same)
 
-pub added_line : (zones : List Zone) (line : ZoneLine) (place : ℕ) (old new : Zone) → place + 1 ≡ length zones → old ≡ get_or zones place old → new.lines ≡ old.lines ++ line ∷ [] → zone_lines (set zones place new) ≡ with_last_line line (zone_lines zones)
+pub added_line : (zones : List Zone) (line : ZoneLine) (place : ℕ) (old new : Zone) → place + 1 ≡ length zones → old ≡ get_or zones place old → new.lines ≡ old.lines ++ line ∷ [] → lines_of_zones (set zones place new) ≡ with_last_line line (lines_of_zones zones)
 added_line [] line place old new last is more = absurd (omega arith)
 added_line (zone ∷ []) line place old new last is more =
     let none : place ≡ 0 = omega arith in
@@ -98,7 +80,7 @@ room_of_last zones zone some is room =
     rw last at room
 
 -- there are as many zones as names
-pub as_many : (olds news : List Zone) → zone_names news ≡ zone_names olds → length news ≡ length olds
+pub as_many : (olds news : List Zone) → names_of_zones news ≡ names_of_zones olds → length news ≡ length olds
 as_many olds news named =
     sym (length-map news (λ (it : Zone). it.name)) ∙ ap length named ∙ length-map olds (λ (it : Zone). it.name)
 
@@ -111,7 +93,7 @@ one_more names line old new named more =
 as_before : (names : List (List ℕ)) (old new : Zone) → new.name ≡ old.name → new.lines ≡ old.lines → written_zone names new ≡ written_zone names old
 as_before names old new named same = rw (named, same) refl
 
-pub written_with_line : (names : List (List ℕ)) (line : ZoneLine) (olds news : List Zone) → zone_names news ≡ zone_names olds → zone_lines news ≡ with_last_line line (zone_lines olds) → map (written_zone names) news ≡ with_line (written_line names line) (map (written_zone names) olds)
+pub written_with_line : (names : List (List ℕ)) (line : ZoneLine) (olds news : List Zone) → names_of_zones news ≡ names_of_zones olds → lines_of_zones news ≡ with_last_line line (lines_of_zones olds) → map (written_zone names) news ≡ with_line (written_line names line) (map (written_zone names) olds)
 written_with_line names line [] [] named more = refl
 written_with_line names line [] (new ∷ news) named more = cc
 written_with_line names line (old ∷ []) [] named more = cc
@@ -124,18 +106,18 @@ written_with_line names line (old ∷ later ∷ olds) [] named more = cc
 written_with_line names line (old ∷ later ∷ olds) (new ∷ news) named more =
     let name : new.name ≡ old.name = cc in
     let lines : new.lines ≡ old.lines = cc in
-    let names_behind : zone_names news ≡ zone_names (later ∷ olds) = cc in
-    let lines_behind : zone_lines news ≡ with_last_line line (zone_lines (later ∷ olds)) = cc in
+    let names_behind : names_of_zones news ≡ names_of_zones (later ∷ olds) = cc in
+    let lines_behind : lines_of_zones news ≡ with_last_line line (lines_of_zones (later ∷ olds)) = cc in
     let head = as_before names old new name lines in
     let tail = written_with_line names line (later ∷ olds) news names_behind lines_behind in
     rw (head, tail) refl
 
 -- what holds of the lines of all zones still does
 
-by_lines : (p : List ZoneLine → Bool) (zones : List Zone) → list_all p (zone_lines zones) ≡ list_all (λ (zone : Zone). p zone.lines) zones
+by_lines : (p : List ZoneLine → Bool) (zones : List Zone) → list_all p (lines_of_zones zones) ≡ list_all (λ (zone : Zone). p zone.lines) zones
 by_lines p zones = list_all-map p (λ (zone : Zone). zone.lines) zones
 
-all_kept : (p : List ZoneLine → Bool) (olds news : List Zone) → zone_lines news ≡ zone_lines olds → IsTrue (list_all (λ (zone : Zone). p zone.lines) olds) → IsTrue (list_all (λ (zone : Zone). p zone.lines) news)
+all_kept : (p : List ZoneLine → Bool) (olds news : List Zone) → lines_of_zones news ≡ lines_of_zones olds → IsTrue (list_all (λ (zone : Zone). p zone.lines) olds) → IsTrue (list_all (λ (zone : Zone). p zone.lines) news)
 all_kept p olds news same all = sym (by_lines p news) ∙ ap (list_all p) same ∙ by_lines p olds ∙ all
 
 -- also with one more line of the last zone, where it then holds of those
@@ -148,11 +130,11 @@ last_with p line (lines ∷ next ∷ others) all more =
     let parts = and_parts (p lines) (list_all p (next ∷ others)) all in
     and_from (p lines) (list_all p (with_last_line line (next ∷ others))) parts.0 (last_with p line (next ∷ others) parts.1 more)
 
-all_with : (p : List ZoneLine → Bool) (line : ZoneLine) (olds news : List Zone) → zone_lines news ≡ with_last_line line (zone_lines olds) → IsTrue (list_all (λ (zone : Zone). p zone.lines) olds) → ((lines : List ZoneLine) → last_or None (zone_lines olds) ≡ Some lines → IsTrue (p lines) → IsTrue (p (lines ++ line ∷ []))) → IsTrue (list_all (λ (zone : Zone). p zone.lines) news)
+all_with : (p : List ZoneLine → Bool) (line : ZoneLine) (olds news : List Zone) → lines_of_zones news ≡ with_last_line line (lines_of_zones olds) → IsTrue (list_all (λ (zone : Zone). p zone.lines) olds) → ((lines : List ZoneLine) → last_or None (lines_of_zones olds) ≡ Some lines → IsTrue (p lines) → IsTrue (p (lines ++ line ∷ []))) → IsTrue (list_all (λ (zone : Zone). p zone.lines) news)
 all_with p line olds news is all more =
-    sym (by_lines p news) ∙ ap (list_all p) is ∙ last_with p line (zone_lines olds) (by_lines p olds ∙ all) more
+    sym (by_lines p news) ∙ ap (list_all p) is ∙ last_with p line (lines_of_zones olds) (by_lines p olds ∙ all) more
 
-all_lines_with : (p : ZoneLine → Bool) (line : ZoneLine) (olds news : List Zone) → zone_lines news ≡ with_last_line line (zone_lines olds) → IsTrue (list_all (λ (zone : Zone). list_all p zone.lines) olds) → IsTrue (p line) → IsTrue (list_all (λ (zone : Zone). list_all p zone.lines) news)
+all_lines_with : (p : ZoneLine → Bool) (line : ZoneLine) (olds news : List Zone) → lines_of_zones news ≡ with_last_line line (lines_of_zones olds) → IsTrue (list_all (λ (zone : Zone). list_all p zone.lines) olds) → IsTrue (p line) → IsTrue (list_all (λ (zone : Zone). list_all p zone.lines) news)
 all_lines_with p line olds news is all here =
     all_with (list_all p) line olds news is all (λ lines e h. list_all-append p lines (line ∷ []) ∙ and_from (list_all p lines) (list_all p (line ∷ [])) h (and_from (p line) true here refl))
 
@@ -167,22 +149,22 @@ continued_pushed names (first ∷ next ∷ lines) line h waits =
     let parts = and_parts (is_some first.until) (are_continued (next ∷ lines)) h in
     rw parts.0 (continued_pushed names (next ∷ lines) line parts.1 waits)
 
-last_written : (names : List (List ℕ)) (zones : List Zone) (lines : List ZoneLine) → last_or None (zone_lines zones) ≡ Some lines → last_lines (map (written_zone names) zones) ≡ map (written_line names) lines
+last_written : (names : List (List ℕ)) (zones : List Zone) (lines : List ZoneLine) → last_or None (lines_of_zones zones) ≡ Some lines → last_lines (map (written_zone names) zones) ≡ map (written_line names) lines
 last_written names [] lines e = cc
 last_written names (zone ∷ []) lines e = ap (map (written_line names)) (same_Some zone.lines lines e)
 last_written names (zone ∷ next ∷ zones) lines e = last_written names (next ∷ zones) lines e
 
-continued_with : (names : List (List ℕ)) (line : ZoneLine) (olds news : List Zone) → zone_lines news ≡ with_last_line line (zone_lines olds) → IsTrue (list_all (λ (zone : Zone). are_continued zone.lines) olds) → IsTrue (wants_line (last_lines (map (written_zone names) olds))) → IsTrue (list_all (λ (zone : Zone). are_continued zone.lines) news)
+continued_with : (names : List (List ℕ)) (line : ZoneLine) (olds news : List Zone) → lines_of_zones news ≡ with_last_line line (lines_of_zones olds) → IsTrue (list_all (λ (zone : Zone). are_continued zone.lines) olds) → IsTrue (wants_line (last_lines (map (written_zone names) olds))) → IsTrue (list_all (λ (zone : Zone). are_continued zone.lines) news)
 continued_with names line olds news is all waits =
     all_with are_continued line olds news is all (λ lines e h. continued_pushed names lines line h (ap wants_line (sym (last_written names olds lines e)) ∙ waits))
 
 -- what holds after a line was added, or wasn't
 
-pub still_named : {A E : Type 0} (told : Result A E) (p : ZoneLine → Bool) (line : ZoneLine) (olds news : List Zone) → OnOk told (zone_lines news ≡ with_last_line line (zone_lines olds)) → OnErr told (zone_lines news ≡ zone_lines olds) → IsTrue (list_all (λ (zone : Zone). list_all p zone.lines) olds) → IsTrue (p line) → IsTrue (list_all (λ (zone : Zone). list_all p zone.lines) news)
+pub still_named : {A E : Type 0} (told : Result A E) (p : ZoneLine → Bool) (line : ZoneLine) (olds news : List Zone) → OnOk told (lines_of_zones news ≡ with_last_line line (lines_of_zones olds)) → OnErr told (lines_of_zones news ≡ lines_of_zones olds) → IsTrue (list_all (λ (zone : Zone). list_all p zone.lines) olds) → IsTrue (p line) → IsTrue (list_all (λ (zone : Zone). list_all p zone.lines) news)
 still_named (Ok done) p line olds news ok err all here = all_lines_with p line olds news ok all here
 still_named (Err error) p line olds news ok err all here = all_kept (list_all p) olds news err all
 
-pub still_continued : {A E : Type 0} (told : Result A E) (names : List (List ℕ)) (line : ZoneLine) (olds news : List Zone) → OnOk told (zone_lines news ≡ with_last_line line (zone_lines olds)) → OnErr told (zone_lines news ≡ zone_lines olds) → IsTrue (list_all (λ (zone : Zone). are_continued zone.lines) olds) → IsTrue (wants_line (last_lines (map (written_zone names) olds))) → IsTrue (list_all (λ (zone : Zone). are_continued zone.lines) news)
+pub still_continued : {A E : Type 0} (told : Result A E) (names : List (List ℕ)) (line : ZoneLine) (olds news : List Zone) → OnOk told (lines_of_zones news ≡ with_last_line line (lines_of_zones olds)) → OnErr told (lines_of_zones news ≡ lines_of_zones olds) → IsTrue (list_all (λ (zone : Zone). are_continued zone.lines) olds) → IsTrue (wants_line (last_lines (map (written_zone names) olds))) → IsTrue (list_all (λ (zone : Zone). are_continued zone.lines) news)
 still_continued (Ok done) names line olds news ok err all waits = continued_with names line olds news ok all waits
 still_continued (Err error) names line olds news ok err all waits = all_kept are_continued olds news err all
 

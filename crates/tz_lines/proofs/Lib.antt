@@ -7,6 +7,6 @@ pub mod LineOrders
 pub mod SetNames
 pub mod LastZone
 pub mod Versions
-pub mod LeapReading
+pub mod LeapLines
 pub mod LeapDates
 pub mod LeapTables

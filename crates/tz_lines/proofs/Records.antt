@@ -29,7 +29,7 @@ use Rattle.tz_records.specs.Entry.{written_entry}
 use Rattle.tz_records.specs.Counts.{exceeds}
 use Rattle.tz_records.specs.LineAlone.{SaysAlone}
 use Rattle.tz_records.proofs.ZoneTextLines.{rule_exceeds, zone_exceeds, line_exceeds}
-use Rattle.tz_lines.specs.Following.{are_before, is_in_place, may_follow}
+use Rattle.tz_lines.specs.RecordOrder.{are_before, is_in_place, may_follow}
 
 -- what no cause of a kind of line says of the limit
 

@@ -1,5 +1,5 @@
 -- Rule sets put in the order of their names, with one more rule.
-use Rattle.std.proofs.Common.{◌≡◌, ◌≢◌, ℕ, zero, suc, ◌+◌, ◌<◌, ◌≤◌, Bool, true, false, ◌&&◌, ◌||◌, nat_le, nat_lt, cond, if◌then◌else◌, IsTrue, List, [], ◌∷◌, ◌++◌, length, map, get_or, set, Option, Some, None, Result, Ok, Err, refl, sym, ap, ◌∙◌, ⊎_elim, subst, arith}
+use Rattle.std.proofs.Common.{◌≡◌, ◌≢◌, ℕ, zero, suc, ◌<◌, ◌≤◌, Bool, true, false, ◌&&◌, ◌||◌, nat_le, nat_lt, cond, if◌then◌else◌, IsTrue, List, [], ◌∷◌, ◌++◌, length, map, get_or, set, Option, Some, None, Result, Ok, Err, refl, sym, ap, ◌∙◌, ⊎_elim, subst, arith}
 use Rattle.std.proofs.lemmas.Bool.{cases_Bool, and_parts, and_from, or_parts}
 use Rattle.std.specs.List.{find, list_all, list_any, slice_get, AllPairs}
 use Rattle.std.specs.List.Sorted.{IsPermutation}
@@ -20,8 +20,8 @@ use Rattle.tz_specs.proofs.AscendingLemmas.{never_before_itself, same_ascending}
 use Rattle.tz_database.proofs.NameOrder.{before_trans, before_other}
 use Rattle.tz_lines.specs.NameIndex.{name_position}
 use Rattle.tz_lines.specs.RuleSets.{with_set, in_name_order}
-use Rattle.tz_lines.specs.Following.{are_before}
-use Rattle.tz_lines.proofs.NameIndex.{differs, apart_rest, first_apart, not_there, pushed_apart}
+use Rattle.tz_lines.specs.RecordOrder.{are_before}
+use Rattle.tz_lines.proofs.NameIndex.{differs, apart_rest, first_apart, not_there}
 
 -- the name of a set as it is written
 abbrev pub name_of : WrittenSet → List ℕ

@@ -1,15 +1,10 @@
 -- Names of rule sets, with one more, and lines that give their places.
-use Rattle.std.proofs.Common.{◌≡◌, ℕ, zero, suc, ◌+◌, ◌<◌, ◌≤◌, Bool, true, false, not, ◌||◌, nat_lt, eqb, cond, if◌then◌else◌, IsTrue, List, [], ◌∷◌, ◌++◌, length, map, get_or, Option, Some, None, Result, Ok, Err, IfOk, IsOk, is_ok, refl, sym, ap, ◌∙◌, arith}
+use Rattle.std.proofs.Common.{◌≡◌, ℕ, zero, suc, ◌+◌, ◌<◌, ◌≤◌, Bool, true, false, ◌||◌, nat_lt, IsTrue, List, [], ◌∷◌, ◌++◌, length, map, Some, None, Result, Ok, Err, IfOk, refl, ap, ◌∙◌, arith}
 use Rattle.std.proofs.lemmas.Bool.{and_parts, and_from}
 use Rattle.std.proofs.lemmas.Bool.Decides.{nat_tests}
-use Rattle.std.specs.Ordering.{nat_cmp, is_eq}
-use Rattle.std.specs.Cmp.Lexicographic.{slice_cmp}
 use Rattle.std.specs.Result.{OnOk}
-use Rattle.std.specs.List.{list_all, list_any, slice_get, position, position_or_len}
-use Rattle.std.proofs.lemmas.Option.{slice_get-get_or}
+use Rattle.std.specs.List.{list_all, list_any, slice_get}
 use Rattle.std.proofs.lemmas.List.{length-append}
-use Rattle.std.proofs.lemmas.List.Folds.{position_or_len_push}
-use Rattle.std.proofs.lemmas.List.Quantifiers.{position-Some}
 use Rattle.std.proofs.lemmas.Slice.Eq.{bytes_eq-Decides}
 use Rattle.tz_types.specs.declared.zone_line.LineRules.{LineRules}
 use Rattle.tz_types.specs.declared.zone_line.LineRules.TheVariants as rules
@@ -18,7 +13,6 @@ use Rattle.tz_types.specs.declared.zone.Zone.{Zone}
 use Rattle.tz_specs.specs.Value.{is_exactly}
 use Rattle.tz_specs.specs.Written.{written_rules, written_line, written_zone}
 use Rattle.tz_database.specs.Continued.{is_named_by}
-use Rattle.tz_database.proofs.FirstLines.{same_name}
 use Rattle.tz_lines.specs.NameIndex.{name_position}
 use Rattle.tz_lines.specs.SetNames.{with_set_name, AreBegun}
 use Rattle.tz_lines.proofs.NameIndex.{not_there}

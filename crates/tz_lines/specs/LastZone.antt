@@ -6,12 +6,12 @@ use Rattle.tz_types.specs.declared.zone_line.ZoneLine.{ZoneLine}
 use Rattle.tz_types.specs.declared.zone.Zone.{Zone}
 
 -- the names of zones
-abbrev pub zone_names : List Zone → List (List ℕ)
-zone_names zones = map (λ zone. zone.name) zones
+abbrev pub names_of_zones : List Zone → List (List ℕ)
+names_of_zones zones = map (λ zone. zone.name) zones
 
 -- the lines of each zone
-abbrev pub zone_lines : List Zone → List (List ZoneLine)
-zone_lines zones = map (λ zone. zone.lines) zones
+abbrev pub lines_of_zones : List Zone → List (List ZoneLine)
+lines_of_zones zones = map (λ zone. zone.lines) zones
 
 -- the lines of each zone, where the last has one more
 abbrev pub with_last_line : ZoneLine → List (List ZoneLine) → List (List ZoneLine)

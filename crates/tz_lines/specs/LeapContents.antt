@@ -1,9 +1,9 @@
 -- What the contents that a leap text has given so far stand for, and what comes of them.
-use Rattle.std.specs.Prelude.{◌≡◌, ℕ, List, [], map, Result, Ok, Err}
+use Rattle.std.specs.Prelude.{◌≡◌, ℕ, List, [], map, Ok}
 use Rattle.std.specs.declared.cmp.Ordering.{Ordering}
 use Rattle.std.specs.Ordering.{ordering_then, int_cmp, nat_cmp, bool_cmp}
 use Rattle.std.specs.List.Sorted.{IsPermutation}
-use Rattle.tz_types.specs.declared.fault.LineFault.{LineFault}
+use Rattle.tz_types.specs.Reason.{HasReason}
 use Rattle.tz_types.specs.declared.leap_entry.LeapEntry.{LeapEntry}
 use Rattle.tz_types.specs.declared.leaps.Leaps.{Leaps}
 use Rattle.tz_specs.specs.Whole.{IsLeast}
@@ -13,7 +13,7 @@ use Rattle.tz_lines.specs.declared.leap_contents.WrittenLeap.{WrittenLeap}
 use Rattle.tz_lines.specs.declared.leap_contents.WrittenExpiry.{WrittenExpiry}
 use Rattle.tz_lines.specs.declared.leap_contents.LeapContents.{LeapContents}
 use Rattle.tz_lines.specs.declared.error.LineError.{LineError}
-use Rattle.tz_lines.specs.declared.error.LineError.TheVariants as errors
+use Rattle.tz_lines.specs.Refusal.{line_fault_of}
 
 abbrev pub entry_meant : WrittenLeap → LeapEntry
 entry_meant leap = record { date = leap.date; added = leap.added }
@@ -42,12 +42,6 @@ pub record IsTableOf (contents : texts.LeapContents) (leaps : Leaps) : Type 0 wh
   pub entries : IsPermutation (map (λ written. written.entry) contents.leaps) leaps.entries
   pub expires : leaps.expires ≡ first_moment contents.expiries
 
--- Want of memory may come at any time; a fault comes only where it is the outcome.
-abbrev pub MeansLeapLineFault : LineError → Result texts.LeapContents LineFault → Type 0
-MeansLeapLineFault errors.NoMemory outcome = Unit {0}
-MeansLeapLineFault (errors.Fault fault) outcome = outcome ≡ Err fault
-
--- Want of memory may come at any time; a fault is the least of those of the contents.
+-- A fault is the least of those of the contents.
 abbrev pub MeansWholeLeapFault : LineError → texts.LeapContents → Type 0
-MeansWholeLeapFault errors.NoMemory contents = Unit {0}
-MeansWholeLeapFault (errors.Fault fault) contents = IsLeast (leap_faults contents) fault
+MeansWholeLeapFault error contents = HasReason (IsLeast (leap_faults contents)) (line_fault_of error)

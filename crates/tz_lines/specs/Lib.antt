@@ -1,14 +1,12 @@
-pub mod AddingOutcome
+pub mod Excess
 pub mod NameIndex
 pub mod RuleSets
 pub mod SetNames
 pub mod Gathered
-pub mod Following
-pub mod Gathering
+pub mod RecordOrder
 pub mod LastZone
 pub mod Refusal
 pub mod Locate
 pub mod LeapContents
 pub mod LeapFaults
-pub mod LeapRefusal
 pub mod Messages

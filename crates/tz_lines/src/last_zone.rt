@@ -1,7 +1,7 @@
 //! The zone that was begun last.
 ghost use Rattle.std.specs.Prelude.{◌≡◌, ◌∷◌, [], IfOk, OnOk, OnErr};
 ghost use Rattle.tz_types.specs.declared.zone.Zone.{Zone as DeclaredZone};
-ghost use Rattle.tz_lines.specs.LastZone.{zone_names, zone_lines, with_last_line, HasRoom};
+ghost use Rattle.tz_lines.specs.LastZone.{names_of_zones, lines_of_zones, with_last_line, HasRoom};
 
 use std::alloc::Global;
 use tz_records::GivenName;
@@ -23,9 +23,9 @@ pub fn zone_of(alloc: Global, name: GivenName<'_>, line: ZoneLine) -> Result<Zon
 /// Adds a line to the last zone.
 pub fn continue_last(zones: &mut Items<Zone>, line: ZoneLine) -> Result<(), NoMemory>
     requires { HasRoom zones.old }
-    ensures names { zone_names zones.new ≡ zone_names zones.old }
-    ensures ok { OnOk result (zone_lines zones.new ≡ with_last_line line (zone_lines zones.old)) }
-    ensures err { OnErr result (zone_lines zones.new ≡ zone_lines zones.old) }
+    ensures names { names_of_zones zones.new ≡ names_of_zones zones.old }
+    ensures ok { OnOk result (lines_of_zones zones.new ≡ with_last_line line (lines_of_zones zones.old)) }
+    ensures err { OnErr result (lines_of_zones zones.new ≡ lines_of_zones zones.old) }
 {
     match zones.last_mut() {
         Some(zone) => zone.lines.push(line),

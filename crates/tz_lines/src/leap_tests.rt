@@ -3,13 +3,10 @@ use crate::{ReadError, read_leaps};
 use std::alloc::Global;
 use std::process::Abort;
 use std::test::Fail;
-use tz_types::{Fault, LeapEntry, Leaps};
-
-/// How long a leap text may be.
-const MOST: usize = 4_194_304;
+use tz_types::{Fault, LeapEntry, Leaps, MOST_BYTES};
 
 fn refuses(rt: &impl Abort, alloc: Global, text: &[u8], line: u32, cause: u8) {
-    assert!(rt; text.len() <= MOST);
+    assert!(rt; text.len() <= MOST_BYTES);
     match read_leaps(alloc, text) {
         Ok(_) => assert!(rt; false, "{text:?}"),
         Err(ReadError::NoMemory) => assert!(rt; false, "{text:?}"),
@@ -44,7 +41,7 @@ fn reads(
     entries: &[(i64, bool)],
     expires: Option<i64>,
 ) {
-    assert!(rt; text.len() <= MOST);
+    assert!(rt; text.len() <= MOST_BYTES);
     match read_leaps(alloc, text) {
         Ok(leaps) => assert!(rt; is_table(&leaps, entries, expires), "{text:?}"),
         Err(_) => assert!(rt; false, "{text:?}"),
@@ -260,7 +257,7 @@ fn counts_records(rt: HostRuntime) -> Result<(), Fail> {
         let line = format!(in rt.alloc(); "Leap {year} Dec 31 23:59:60 + S\n")?;
         text.extend_from_slice(line.as_bytes())?;
     }
-    assert!(rt; text.len() <= MOST);
+    assert!(rt; text.len() <= MOST_BYTES);
     match read_leaps(rt.alloc(), text.as_slice()) {
         Ok(leaps) => assert_eq!(rt; leaps.entries.len(), 1_024),
         Err(_) => assert!(rt; false, "1,024 leap seconds"),

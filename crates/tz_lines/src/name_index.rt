@@ -24,6 +24,7 @@ impl NameIndex {
         }
     }
 
+    /// The place of a name, if one is noted.
     pub fn get(&self, name: &[u8]) -> Option<u32>
         ensures { result ≡ place_of self.now name.now }
     {

@@ -10,8 +10,8 @@ ghost use Rattle.tz_specs.specs.Written.{written_rule, written_set, set_names};
 ghost use Rattle.tz_specs.specs.Contents.{with_rule, is_set_named, is_full_set};
 ghost use Rattle.tz_lines.specs.NameIndex.{name_position, IsIndex};
 ghost use Rattle.tz_lines.specs.RuleSets.{in_name_order};
-ghost use Rattle.tz_lines.specs.Following.{are_before};
-ghost use Rattle.tz_lines.specs.AddingOutcome.{MeansLimit};
+ghost use Rattle.tz_lines.specs.RecordOrder.{are_before};
+ghost use Rattle.tz_lines.specs.Excess.{MeansLimit};
 
 use crate::error::AddError;
 use crate::name_index::NameIndex;

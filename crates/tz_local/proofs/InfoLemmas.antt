@@ -6,6 +6,7 @@ use Rattle.std.proofs.lemmas.Bool.{cond-true, cond-false, false_from_ne_true}
 use Rattle.std.proofs.lemmas.List.{append-nil}
 use Rattle.std.proofs.lemmas.Option.{same_Some, none-some}
 use Rattle.jiff_core.specs.Calendar.{IsWithin}
+use Rattle.tz_types.specs.declared.limit.TheConstants.{LONGEST_OFFSET}
 use Rattle.tz_types.specs.declared.range.SysInfo.{SysInfo}
 use Rattle.tz_types.specs.declared.range.LocalInfo.{LocalInfo}
 use Rattle.tz_types.specs.declared.range.LocalInfo.TheVariants.{Unique, Nonexistent, Ambiguous}
@@ -104,7 +105,7 @@ pub record IsWalk (zone : CompiledZone) (l end : ℤ) (findings : Findings) : Ty
   pub covered : Covers first_instant end seen
   pub covers : Covers end end_of_time ahead
 
-pub range_near : (zone : CompiledZone) (t : ℤ) (range : SysInfo) → range_at (expansion_of zone) t ≡ Some range → IsWithin 172_800 range.offset
+pub range_near : (zone : CompiledZone) (t : ℤ) (range : SysInfo) → range_at (expansion_of zone) t ≡ Some range → IsWithin LONGEST_OFFSET range.offset
 range_near zone t range found =
     let among = found_among first_instant end_of_time t (expansion_of zone) range (zone_covers zone) found in
     let has : In range (among.before ++ range ∷ among.later) = In-append_right among.before (range ∷ among.later) range (inl refl) in
@@ -134,20 +135,20 @@ begun_from a b (first ∷ ranges) range covers has =
     (λ (later : In range ranges). let there = begun_from first.end b ranges range covers.2 later in omega (arith, ints, there))
     has
 
-too_early : (l : ℤ) (range : SysInfo) → IsWithin 172_800 range.offset → range.end ≤ℤ (l -ℤ pos 172_800) → shows_local l range ≡ false
+too_early : (l : ℤ) (range : SysInfo) → IsWithin LONGEST_OFFSET range.offset → range.end ≤ℤ (l -ℤ pos LONGEST_OFFSET) → shows_local l range ≡ false
 too_early l range near early =
     false_from_ne_true (shows_local l range) (λ shows. let parts = shows-true l range shows in omega (arith, ints, near, parts.1))
 
 -- a range that holds the instant two days before l has begun by l
-pub first_begun : (zone : CompiledZone) (l : ℤ) (range : SysInfo) → range_at (expansion_of zone) (l -ℤ pos 172_800) ≡ Some range → IsTrue (begins_by l range)
+pub first_begun : (zone : CompiledZone) (l : ℤ) (range : SysInfo) → range_at (expansion_of zone) (l -ℤ pos LONGEST_OFFSET) ≡ Some range → IsTrue (begins_by l range)
 first_begun zone l range found =
-    let among = found_among first_instant end_of_time (l -ℤ pos 172_800) (expansion_of zone) range (zone_covers zone) found in
-    let near = range_near zone (l -ℤ pos 172_800) range found in
+    let among = found_among first_instant end_of_time (l -ℤ pos LONGEST_OFFSET) (expansion_of zone) range (zone_covers zone) found in
+    let near = range_near zone (l -ℤ pos LONGEST_OFFSET) range found in
     le-int_le (range.begin +ℤ range.offset) l (omega (arith, ints, among.begun, near))
 
-pub first_seen : (zone : CompiledZone) (l : ℤ) (range : SysInfo) (findings : Findings) → range_at (expansion_of zone) (l -ℤ pos 172_800) ≡ Some range → ((before : List SysInfo) → candidates before l ≡ [] → AreFindings (before ++ range ∷ []) l findings) → IsWalk zone l range.end findings
+pub first_seen : (zone : CompiledZone) (l : ℤ) (range : SysInfo) (findings : Findings) → range_at (expansion_of zone) (l -ℤ pos LONGEST_OFFSET) ≡ Some range → ((before : List SysInfo) → candidates before l ≡ [] → AreFindings (before ++ range ∷ []) l findings) → IsWalk zone l range.end findings
 first_seen zone l range findings found told =
-    let t = l -ℤ pos 172_800 in
+    let t = l -ℤ pos LONGEST_OFFSET in
     let among = found_among first_instant end_of_time t (expansion_of zone) range (zone_covers zone) found in
     let none = none_shown l among.before
     (λ other has.
@@ -199,7 +200,7 @@ next_seen zone l end findings range more walk found told =
     }
 
 -- ---- the end of the walk
-too_late : (l : ℤ) (range : SysInfo) → IsWithin 172_800 range.offset → (l +ℤ pos 172_800) <ℤ range.begin → begins_by l range ≡ false
+too_late : (l : ℤ) (range : SysInfo) → IsWithin LONGEST_OFFSET range.offset → (l +ℤ pos LONGEST_OFFSET) <ℤ range.begin → begins_by l range ≡ false
 too_late l range near late =
     false_from_ne_true (begins_by l range) (λ begins. let early = begins-true l range begins in omega (arith, ints, near, early))
 
@@ -227,7 +228,7 @@ found_is_info ranges l (Nonexistent first second) found =
     let between : gap_between (from_last_begun ranges l) ≡ Some (Nonexistent first second) = rw found.2 in
     local_info-none ranges l found.1 ∙ between
 
-pub walked : (zone : CompiledZone) (l end : ℤ) (info : LocalInfo) → IsWalk zone l end (Told info) → (l +ℤ pos 172_800) <ℤ end → local_info (expansion_of zone) l ≡ Some info
+pub walked : (zone : CompiledZone) (l end : ℤ) (info : LocalInfo) → IsWalk zone l end (Told info) → (l +ℤ pos LONGEST_OFFSET) <ℤ end → local_info (expansion_of zone) l ≡ Some info
 walked zone l end info walk past =
     let all = all_told l info walk.seen walk.ahead walk.found
     (λ range has.
@@ -237,7 +238,7 @@ walked zone l end info walk past =
     too_late l range near (omega (arith, ints, begins))) in
     found_is_info (expansion_of zone) l info (subst (λ (rs : List SysInfo). AreFindings rs l (Told info)) (sym walk.split) all)
 
-pub never_begun : (zone : CompiledZone) (l end : ℤ) (range : SysInfo) → IsWalk zone l end (Begun range) → (l +ℤ pos 172_800) <ℤ end → ⊥
+pub never_begun : (zone : CompiledZone) (l end : ℤ) (range : SysInfo) → IsWalk zone l end (Begun range) → (l +ℤ pos LONGEST_OFFSET) <ℤ end → ⊥
 never_begun zone l end range walk past =
     let last = last_begun walk.seen l range [] walk.found.1 in
     let has : In range walk.seen = In-from_get walk.seen last.place range last.here in
@@ -257,7 +258,7 @@ walks_on (negsuc end) (pos next) (negsuc limit) later below = omega (arith, ints
 walks_on (negsuc end) (negsuc next) (pos limit) later below = omega (arith, ints)
 walks_on (negsuc end) (negsuc next) (negsuc limit) later below = omega (arith, ints)
 
-pub ends_inside : (zone : CompiledZone) (l end : ℤ) (findings : Findings) → IsWalk zone l end findings → IsLocalTime l → end ≤ℤ (l +ℤ pos 172_800) → IsInstant end
+pub ends_inside : (zone : CompiledZone) (l end : ℤ) (findings : Findings) → IsWalk zone l end findings → IsLocalTime l → end ≤ℤ (l +ℤ pos LONGEST_OFFSET) → IsInstant end
 ends_inside zone l end findings walk inside not_past =
     let covered = covers_ordered first_instant end walk.seen walk.covered in
     (covered, omega (arith, ints, inside.1))

@@ -1,6 +1,7 @@
 -- Which local times need a choice, and the instants that they stand for.
 use Rattle.std.specs.Prelude.{◌≡◌, ℤ, Option, Some}
 use Rattle.jiff_core.specs.Calendar.{IsWithin}
+use Rattle.tz_types.specs.declared.limit.TheConstants.{LONGEST_OFFSET}
 use Rattle.tz_types.specs.declared.range.LocalInfo.{LocalInfo}
 use Rattle.tz_types.specs.declared.range.LocalInfo.TheVariants.{Unique, Nonexistent, Ambiguous}
 use Rattle.tz_types.specs.declared.range.Choose.{Choose}
@@ -27,8 +28,8 @@ IsInstantOf zone l choose t =
 
 -- each range that is told has an offset of at most two days
 abbrev pub HasNearOffsets : LocalInfo → Type 0
-HasNearOffsets (Unique range) = IsWithin 172_800 range.offset
+HasNearOffsets (Unique range) = IsWithin LONGEST_OFFSET range.offset
 HasNearOffsets (Nonexistent first second) =
-    IsWithin 172_800 first.offset × IsWithin 172_800 second.offset
+    IsWithin LONGEST_OFFSET first.offset × IsWithin LONGEST_OFFSET second.offset
 HasNearOffsets (Ambiguous first second) =
-    IsWithin 172_800 first.offset × IsWithin 172_800 second.offset
+    IsWithin LONGEST_OFFSET first.offset × IsWithin LONGEST_OFFSET second.offset

@@ -1,6 +1,7 @@
 //! What is known of a local time while the ranges of a zone are looked at, one after another.
 ghost use Rattle.std.specs.Prelude.{◌≡◌, false, ℤ, List, [], ◌∷◌, ◌++◌, IsTrue};
 ghost use Rattle.jiff_core.specs.Calendar.{IsWithin};
+ghost use Rattle.tz_types.specs.declared.limit.TheConstants.{LONGEST_OFFSET};
 ghost use Rattle.tz_types.specs.declared.range.SysInfo.{SysInfo};
 ghost use Rattle.tz_specs.specs.Local.{candidates, shows_local, begins_by};
 ghost use Rattle.tz_local.specs.LocalTime.{IsLocalTime};
@@ -22,7 +23,7 @@ impl Findings {
     /// With a first range that has begun, where those before it are too early to show the local time.
     pub fn from_first(range: SysInfo, l: i64) -> Self
         requires inside { IsLocalTime l }
-        requires near { IsWithin 172_800 range.offset }
+        requires near { IsWithin LONGEST_OFFSET range.offset }
         requires begun { IsTrue (begins_by l range) }
         ensures { (before : List SysInfo) → candidates before l ≡ [] → AreFindings (before ++ range ∷ []) l result }
     {
@@ -36,7 +37,7 @@ impl Findings {
     /// With the next range.
     pub fn and(self, range: SysInfo, l: i64) -> Self
         requires inside { IsLocalTime l }
-        requires near { IsWithin 172_800 range.offset }
+        requires near { IsWithin LONGEST_OFFSET range.offset }
         ensures { (seen : List SysInfo) → AreFindings seen l self → AreFindings (seen ++ range ∷ []) l result }
     {
         if is_shown(&range, l) {

@@ -1,6 +1,7 @@
 //! The local info of a local time: which ranges show it.
 ghost use Rattle.std.specs.Prelude.{◌≡◌, ℕ, ◌<◌, ◌↔◌, IsOk, IfOk, Some};
 ghost use Rattle.jiff_core.specs.Calendar.{IsWithin};
+ghost use Rattle.tz_types.specs.declared.limit.TheConstants.{LONGEST_OFFSET};
 ghost use Rattle.tz_specs.specs.Expansion.{IsInstant, range_at};
 ghost use Rattle.tz_specs.specs.Local.{local_info};
 ghost use Rattle.tz_expand.specs.Zone.{expansion_of};
@@ -11,17 +12,17 @@ use crate::findings::Findings;
 use std::marker::Brand;
 use std::sync::ledger::{Blank, Ledger};
 use tz_expand::{CompiledZone, info_at};
-use tz_types::{END_OF_TIME, FIRST_INSTANT, LocalInfo, Steps, SysInfo};
+use tz_types::{END_OF_TIME, FIRST_INSTANT, LONGEST_OFFSET, LocalInfo, Steps, SysInfo};
 
 /// The most by which a local time is ahead of universal time or behind it, in seconds: a standard offset and a save of a
 /// day each.
-const MOST_OFFSET: i64 = 172_800;
+const MOST_OFFSET: i64 = LONGEST_OFFSET as i64;
 
 /// The range that holds an instant in time.
 fn range_at<L: Ledger>(zone: &CompiledZone, t: i64, steps: &mut Steps<L>) -> SysInfo
     requires { IsInstant t }
     ensures range { range_at (expansion_of zone.now) t ≡ Some result }
-    ensures near { IsWithin 172_800 result.offset }
+    ensures near { IsWithin LONGEST_OFFSET result.offset }
 {
     match info_at(zone, t, steps) {
         Some(range) => range,

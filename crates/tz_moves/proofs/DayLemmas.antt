@@ -4,6 +4,7 @@ use Rattle.std.specs.Int.{w64, int_max, int_min}
 use Rattle.std.proofs.lemmas.Int.{ints, clamps}
 use Rattle.jiff_core.specs.Calendar.{IsWithin}
 use Rattle.jiff_core.proofs.SignedLemmas.{signed_arith}
+use Rattle.tz_types.specs.declared.limit.TheConstants.{LONGEST_OFFSET}
 use Rattle.tz_types.specs.declared.range.SysInfo.{SysInfo}
 use Rattle.tz_specs.specs.Expansion.{first_instant, end_of_time, range_at}
 use Rattle.tz_specs.specs.Cover.{Covers}
@@ -21,7 +22,7 @@ shared begin end low high = int_max (int_min end high -ℤ int_max begin low) (p
 
 -- an instant, moved into the stretch and two days round it
 reached : ℤ → ℤ → ℤ → ℤ
-reached low high t = int_max (low -ℤ pos 172_800) (int_min t (high +ℤ pos 172_800))
+reached low high t = int_max (low -ℤ pos LONGEST_OFFSET) (int_min t (high +ℤ pos LONGEST_OFFSET))
 
 pub shared_early : (begin end low high : ℤ) → end ≤ℤ low → shared begin end low high ≡ pos 0
 shared_early begin end low high early = omega (arith, ints, clamps)
@@ -35,7 +36,7 @@ shared_low begin end low high = omega (arith, ints, clamps)
 pub shared_high : (begin end low high : ℤ) → low ≤ℤ high → shared begin end low high ≤ℤ (high -ℤ low)
 shared_high begin end low high ordered = omega (arith, ints, clamps)
 
-shared_reached : (begin end offset low high : ℤ) → low ≤ℤ high → begin ≤ℤ end → IsWithin 172_800 offset → shared (begin +ℤ offset) (end +ℤ offset) low high ≤ℤ (reached low high end -ℤ reached low high begin)
+shared_reached : (begin end offset low high : ℤ) → low ≤ℤ high → begin ≤ℤ end → IsWithin LONGEST_OFFSET offset → shared (begin +ℤ offset) (end +ℤ offset) low high ≤ℤ (reached low high end -ℤ reached low high begin)
 unfolding reached
 shared_reached begin end offset low high ordered takes near = omega (arith, ints, clamps, near)
 
@@ -67,21 +68,21 @@ none_seen day (range ∷ ranges) none =
     let rest : day_seconds day ranges ≡ pos 0 = none_seen day ranges (λ other has. none other (inr has)) in
     rw (here, rest) refl
 
-seconds_early : (day : ℤ) (range : SysInfo) → IsWithin 172_800 range.offset → range.end ≤ℤ (midnight day -ℤ pos 172_800) → seconds_in day range ≡ pos 0
+seconds_early : (day : ℤ) (range : SysInfo) → IsWithin LONGEST_OFFSET range.offset → range.end ≤ℤ (midnight day -ℤ pos LONGEST_OFFSET) → seconds_in day range ≡ pos 0
 seconds_early day range near early =
     shared_early (range.begin +ℤ range.offset) (range.end +ℤ range.offset) (midnight day) (midnight (day +ℤ pos 1)) (over (midnight day) range.end range.offset near early)
   where
-    over : (low end offset : ℤ) → IsWithin 172_800 offset → end ≤ℤ (low -ℤ pos 172_800) → (end +ℤ offset) ≤ℤ low
+    over : (low end offset : ℤ) → IsWithin LONGEST_OFFSET offset → end ≤ℤ (low -ℤ pos LONGEST_OFFSET) → (end +ℤ offset) ≤ℤ low
     over low end offset near early = omega (arith, ints, near)
 
-seconds_late : (day : ℤ) (range : SysInfo) → IsWithin 172_800 range.offset → (midnight (day +ℤ pos 1) +ℤ pos 172_800) ≤ℤ range.begin → seconds_in day range ≡ pos 0
+seconds_late : (day : ℤ) (range : SysInfo) → IsWithin LONGEST_OFFSET range.offset → (midnight (day +ℤ pos 1) +ℤ pos LONGEST_OFFSET) ≤ℤ range.begin → seconds_in day range ≡ pos 0
 seconds_late day range near late =
     shared_late (range.begin +ℤ range.offset) (range.end +ℤ range.offset) (midnight day) (midnight (day +ℤ pos 1)) (under (midnight (day +ℤ pos 1)) range.begin range.offset near late)
   where
-    under : (high begin offset : ℤ) → IsWithin 172_800 offset → (high +ℤ pos 172_800) ≤ℤ begin → high ≤ℤ (begin +ℤ offset)
+    under : (high begin offset : ℤ) → IsWithin LONGEST_OFFSET offset → (high +ℤ pos LONGEST_OFFSET) ≤ℤ begin → high ≤ℤ (begin +ℤ offset)
     under high begin offset near late = omega (arith, ints, near)
 
-few_seconds : (day a b : ℤ) (ranges : List SysInfo) → Covers a b ranges → ((range : SysInfo) → In range ranges → IsWithin 172_800 range.offset) → (pos 0 ≤ℤ day_seconds day ranges) × (day_seconds day ranges ≤ℤ (reached (midnight day) (midnight (day +ℤ pos 1)) b -ℤ reached (midnight day) (midnight (day +ℤ pos 1)) a))
+few_seconds : (day a b : ℤ) (ranges : List SysInfo) → Covers a b ranges → ((range : SysInfo) → In range ranges → IsWithin LONGEST_OFFSET range.offset) → (pos 0 ≤ℤ day_seconds day ranges) × (day_seconds day ranges ≤ℤ (reached (midnight day) (midnight (day +ℤ pos 1)) b -ℤ reached (midnight day) (midnight (day +ℤ pos 1)) a))
 few_seconds day a b [] covers near =
     let same : reached (midnight day) (midnight (day +ℤ pos 1)) a ≡ reached (midnight day) (midnight (day +ℤ pos 1)) b = ap (reached (midnight day) (midnight (day +ℤ pos 1))) covers in
     (omega (arith, ints), omega (arith, ints, same))
@@ -111,9 +112,9 @@ pub record IsSummed (zone : CompiledZone) (day end seconds : ℤ) : Type 0 where
   pub covers : Covers end end_of_time ahead
   pub sum : seconds ≡ day_seconds day seen
 
-pub first_summed : (zone : CompiledZone) (day seconds : ℤ) (range : SysInfo) → range_at (expansion_of zone) (midnight day -ℤ pos 172_800) ≡ Some range → seconds ≡ seconds_in day range → IsSummed zone day range.end seconds
+pub first_summed : (zone : CompiledZone) (day seconds : ℤ) (range : SysInfo) → range_at (expansion_of zone) (midnight day -ℤ pos LONGEST_OFFSET) ≡ Some range → seconds ≡ seconds_in day range → IsSummed zone day range.end seconds
 first_summed zone day seconds range found told =
-    let t = midnight day -ℤ pos 172_800 in
+    let t = midnight day -ℤ pos LONGEST_OFFSET in
     let among = found_among first_instant end_of_time t (expansion_of zone) range (zone_covers zone) found in
     let none : day_seconds day among.before ≡ pos 0 = none_seen day among.before
     (λ other has.
@@ -154,7 +155,7 @@ next_summed zone day end seconds more range walk found told =
     one_more : (seconds before more s : ℤ) → seconds ≡ before → more ≡ s → (seconds +ℤ more) ≡ (before +ℤ (s +ℤ pos 0))
     one_more seconds before more s is told = omega (arith, ints)
 
-pub all_summed : (zone : CompiledZone) (day end seconds : ℤ) → IsSummed zone day end seconds → (midnight (day +ℤ pos 1) +ℤ pos 172_800) ≤ℤ end → seconds ≡ day_seconds day (expansion_of zone)
+pub all_summed : (zone : CompiledZone) (day end seconds : ℤ) → IsSummed zone day end seconds → (midnight (day +ℤ pos 1) +ℤ pos LONGEST_OFFSET) ≤ℤ end → seconds ≡ day_seconds day (expansion_of zone)
 all_summed zone day end seconds walk past =
     let none : day_seconds day walk.ahead ≡ pos 0 = none_seen day walk.ahead
     (λ other has.

@@ -1,6 +1,7 @@
 -- How many seconds a civil day has in a zone.
 use Rattle.std.specs.Prelude.{Bool, false, ◌&&◌, ℕ, zero, suc, List, [], ◌∷◌, int_le, int_lt, ℤ, pos, ◌+ℤ◌, ◌-ℤ◌, ◌*ℤ◌, ◌≤ℤ◌, Option, Some, None}
 use Rattle.std.specs.Int.{int_max, int_min}
+use Rattle.tz_types.specs.declared.limit.TheConstants.{LONGEST_OFFSET}
 use Rattle.tz_types.specs.declared.range.SysInfo.{SysInfo}
 use Rattle.tz_specs.specs.Expansion.{first_instant, end_of_time, range_at}
 
@@ -23,7 +24,7 @@ day_seconds day (range ∷ later) = seconds_in day range +ℤ day_seconds day la
 -- No offset is above two days: the seconds of a day so far from both ends of time are all in time.
 abbrev pub IsDay : ℤ → Type 0
 IsDay day =
-    ((first_instant +ℤ pos 172_800) ≤ℤ midnight day) × (midnight (day +ℤ pos 1) ≤ℤ (end_of_time -ℤ pos 172_800))
+    ((first_instant +ℤ pos LONGEST_OFFSET) ≤ℤ midnight day) × (midnight (day +ℤ pos 1) ≤ℤ (end_of_time -ℤ pos LONGEST_OFFSET))
 
 -- so many instants from t on, each a second after the one before
 unfoldable pub seconds_from : ℤ → ℕ → List ℤ

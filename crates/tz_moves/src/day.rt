@@ -1,6 +1,7 @@
 //! How many seconds a civil day has.
 ghost use Rattle.std.specs.Prelude.{◌≡◌, ◌<◌, ◌↔◌, pos, IsOk, IfOk};
 ghost use Rattle.jiff_core.specs.Calendar.{IsWithin, IsBetween};
+ghost use Rattle.tz_types.specs.declared.limit.TheConstants.{LONGEST_OFFSET};
 ghost use Rattle.tz_expand.specs.Zone.{expansion_of};
 ghost use Rattle.tz_moves.specs.Moves.{IsInTime};
 ghost use Rattle.tz_moves.specs.Day.{IsDay, seconds_in, day_seconds};
@@ -10,11 +11,11 @@ use std::marker::Brand;
 use std::sync::ledger::{Blank, Ledger};
 use tz_expand::CompiledZone;
 use tz_local::OutOfRange;
-use tz_types::{END_OF_TIME, FIRST_INSTANT, Steps, SysInfo};
+use tz_types::{END_OF_TIME, FIRST_INSTANT, LONGEST_OFFSET, Steps, SysInfo};
 
 /// The most by which a local time is ahead of universal time or behind it, in seconds: a standard offset and a save
 /// of a day each.
-const MOST_OFFSET: i64 = 172_800;
+const MOST_OFFSET: i64 = LONGEST_OFFSET as i64;
 
 /// The seconds from one midnight to the next on a clock that doesn't move.
 const DAY: i64 = 86_400;
@@ -29,7 +30,7 @@ const LAST_DAY: i64 = (END_OF_TIME - MOST_OFFSET) / DAY - 1;
 fn seconds_in(day: i64, range: &SysInfo) -> i64
     requires inside { IsDay day }
     requires in_time { IsInTime range.now }
-    requires near { IsWithin 172_800 range.now.offset }
+    requires near { IsWithin LONGEST_OFFSET range.now.offset }
     ensures value { result ≡ seconds_in day range.now }
     ensures bound { IsBetween (pos 0) (pos 86_400) result }
 {

@@ -1,6 +1,7 @@
 //! Ranges one after another.
 ghost use Rattle.std.specs.Prelude.{◌≡◌, ◌+◌, ◌*◌, ◌≤◌, ◌≤ℤ◌, ◌<ℤ◌, Some};
 ghost use Rattle.jiff_core.specs.Calendar.{IsWithin};
+ghost use Rattle.tz_types.specs.declared.limit.TheConstants.{LONGEST_OFFSET};
 ghost use Rattle.tz_specs.specs.Expansion.{IsInstant, range_at};
 ghost use Rattle.tz_specs.specs.RulesFollowed.{most_rules_followed};
 ghost use Rattle.tz_expand.specs.Compiled.{periods};
@@ -22,7 +23,7 @@ pub(crate) fn runs_alike(before: &SysInfo, range: &SysInfo) -> bool
 pub(crate) fn range_at<L: Ledger>(zone: &CompiledZone, t: i64, steps: &mut Steps<L>) -> SysInfo
     requires { IsInstant t }
     ensures range { range_at (expansion_of zone.now) t ≡ Some result }
-    ensures near { IsWithin 172_800 result.offset }
+    ensures near { IsWithin LONGEST_OFFSET result.offset }
     ensures in_time { IsInTime result }
     ensures holds { (result.begin ≤ℤ t) × (t <ℤ result.end) }
     ensures steps { let rules = most_rules_followed (periods zone.now.lines) in

@@ -9,7 +9,10 @@ ghost use Rattle.tz_types.specs.Calendar.{has_day, has_day_through};
 ghost use Rattle.tz_specs.specs.Value.{is_exactly, is_dash, rule_year_of, last_year_named, years_of, month_named, rule_day_of, until_day_of, kind_of, time_of, stdoff_of, is_daylight, save_of, is_bad_name, is_long_name, starts_amount, letters_of};
 
 use tz_text::{amount, named_among, on, year};
-use tz_types::{AtKind, LONGEST_NAME, LONGEST_SHIFT, Letters, Month, On, has_day, has_day_through};
+use tz_types::{
+    AtKind, LAST_RULE_YEAR, LAST_WRITTEN_YEAR, LONGEST_NAME, LONGEST_SHIFT, Letters, Month, On,
+    has_day, has_day_through,
+};
 
 const MONTHS: [&[u8]; 12] = [
     b"January",
@@ -48,7 +51,7 @@ pub fn rule_year(field: &[u8]) -> Option<i32>
     ensures bound { IfSome result IsRuleYear }
 {
     let year = year(field)?;
-    if year.unsigned_abs() <= 9_998 {
+    if year.unsigned_abs() <= LAST_RULE_YEAR {
         Some(year)
     } else {
         None
@@ -63,7 +66,7 @@ fn last_year(first: i32, word: &[u8]) -> Option<i32>
     ensures bound { IfSome result IsWrittenYear }
 {
     match named_among(word, &LAST_YEARS)? {
-        0 => Some(999_999_999),
+        0 => Some(LAST_WRITTEN_YEAR as i32),
         2 => Some(first),
         _ => None,
     }

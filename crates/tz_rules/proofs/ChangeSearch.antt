@@ -5,6 +5,7 @@ use Rattle.std.specs.Ordering.{int_eq}
 use Rattle.std.proofs.lemmas.Int.{ints, by_lt_z}
 use Rattle.std.proofs.lemmas.Bool.{cases_order, or_cases, or_left, or_right, and_parts, and_from}
 use Rattle.std.proofs.lemmas.Option.{slice_get_within}
+use Rattle.tz_types.specs.declared.limit.TheConstants.{LONGEST_OFFSET}
 use Rattle.tz_types.specs.Amount.{IsShift}
 use Rattle.tz_types.specs.declared.rule.Rule.{Rule}
 use Rattle.tz_types.specs.declared.rule_set.RuleSet.{RuleSet}
@@ -76,7 +77,7 @@ first_is_soonest set stdoff t state window first within is to_come mark_is limit
       stands = to_come.0.stands;
       after = ap (λ (m : Mark). is_after m first.occurrence.occurrence) mark_is ∙ to_come.0.after;
       comes = comes;
-      within = comes_by set stdoff first.occurrence.occurrence first.at (window.limit -ℤ pos 172_800) within comes (omega (arith, ints, limit_is));
+      within = comes_by set stdoff first.occurrence.occurrence first.at (window.limit -ℤ pos LONGEST_OFFSET) within comes (omega (arith, ints, limit_is));
       soonest = λ place rule year instant low. absurd (omega arith);
       last = λ place rule year instant low. absurd (omega arith);
     }
@@ -101,7 +102,7 @@ window_is set mark window first mark_is limit_is earliest latest is =
 -- what lies past the window comes later
 past_window : (set : RuleSet) (stdoff : ℤ) (window : Window) (place : ℕ) (coming : Coming) (x : Occurrence) (instant : ℤ) → IsShift stdoff → IsSoonest set stdoff window place coming → window.limit <ℤ nominal_of x → ComesAt set stdoff x instant → coming.at <ℤ instant
 past_window set stdoff window place coming x instant within so_far past comes =
-    let after = comes_after set stdoff x instant (window.limit -ℤ pos 172_800) within comes (omega (arith, ints)) in
+    let after = comes_after set stdoff x instant (window.limit -ℤ pos LONGEST_OFFSET) within comes (omega (arith, ints)) in
     let by = so_far.within in
     omega (arith, ints)
 

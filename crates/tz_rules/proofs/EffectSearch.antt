@@ -4,6 +4,7 @@ use Rattle.std.specs.Prelude.{slice_get}
 use Rattle.std.proofs.lemmas.Int.{ints, by_lt_z}
 use Rattle.std.proofs.lemmas.Bool.{cases_order}
 use Rattle.std.proofs.lemmas.Option.{slice_get_within}
+use Rattle.tz_types.specs.declared.limit.TheConstants.{LONGEST_OFFSET}
 use Rattle.tz_types.specs.Amount.{IsShift}
 use Rattle.tz_types.specs.declared.rule.Rule.{Rule}
 use Rattle.tz_types.specs.declared.rule_set.RuleSet.{RuleSet}
@@ -23,7 +24,7 @@ use Rattle.tz_rules.proofs.Instants.{comes_after, comes_by}
 use Rattle.tz_rules.proofs.BeforeMark.{earlier_is_before, before_is_by_second, own_stands, precedes_self, not_after_later, same_rule, is_of_stands, occurs_of_is, place_of_is}
 
 -- ---- what lies two days before has come, what lies more than two days after hasn't
-pub settled_has_come : (set : RuleSet) (stdoff t : ℤ) (occurrence : Occurrence) → IsShift stdoff → IsOccurrence set occurrence → nominal_of occurrence ≤ℤ (t -ℤ pos 172_800) → HasCome set stdoff t occurrence
+pub settled_has_come : (set : RuleSet) (stdoff t : ℤ) (occurrence : Occurrence) → IsShift stdoff → IsOccurrence set occurrence → nominal_of occurrence ≤ℤ (t -ℤ pos LONGEST_OFFSET) → HasCome set stdoff t occurrence
 settled_has_come set stdoff t occurrence within is by =
     let comes = comes_somewhen set stdoff occurrence is in
     record {
@@ -32,9 +33,9 @@ settled_has_come set stdoff t occurrence within is by =
       come = comes_by set stdoff occurrence comes.0 t within comes.1 (omega (arith, ints));
     }
 
-pub come_is_near : (set : RuleSet) (stdoff t : ℤ) (occurrence : Occurrence) → IsShift stdoff → HasCome set stdoff t occurrence → nominal_of occurrence ≤ℤ (t +ℤ pos 172_800)
+pub come_is_near : (set : RuleSet) (stdoff t : ℤ) (occurrence : Occurrence) → IsShift stdoff → HasCome set stdoff t occurrence → nominal_of occurrence ≤ℤ (t +ℤ pos LONGEST_OFFSET)
 come_is_near set stdoff t occurrence within has =
-    by_lt_z (t +ℤ pos 172_800) (nominal_of occurrence)
+    by_lt_z (t +ℤ pos LONGEST_OFFSET) (nominal_of occurrence)
     (λ late.
     let after = comes_after set stdoff occurrence has.instant t within has.comes (omega (arith, ints)) in
     let come = has.come in
@@ -42,13 +43,13 @@ come_is_near set stdoff t occurrence within has =
     (λ le. le)
 
 -- ---- where the last one up to two days after has come
-pub settled_is_state : (set : RuleSet) (stdoff t second : ℤ) (found : Option Placed) → IsShift stdoff → second ≡ (t +ℤ pos 172_800) → IsLastBy set second found → is_settled t found ≡ true → IsState set stdoff t found
+pub settled_is_state : (set : RuleSet) (stdoff t second : ℤ) (found : Option Placed) → IsShift stdoff → second ≡ (t +ℤ pos LONGEST_OFFSET) → IsLastBy set second found → is_settled t found ≡ true → IsState set stdoff t found
 settled_is_state set stdoff t second None within second_is none settled =
     λ other instant is comes.
     let late = none other is in
     comes_after set stdoff other instant t within comes (omega (arith, ints))
 settled_is_state set stdoff t second (Some found) within second_is last settled =
-    let by = int_le-true (nominal_of found.occurrence) (t -ℤ pos 172_800) settled in
+    let by = int_le-true (nominal_of found.occurrence) (t -ℤ pos LONGEST_OFFSET) settled in
     let has = settled_has_come set stdoff t found.occurrence within last.is by in (
       last.stands,
       record {
@@ -70,7 +71,7 @@ settled_is_state set stdoff t second (Some found) within second_is last settled 
     )
 
 -- ---- else: from those two days before, rule by rule
-pub come_at_first : (set : RuleSet) (stdoff t second : ℤ) (found : Option Placed) → IsShift stdoff → second ≡ (t -ℤ pos 172_800) → IsLastBy set second found → IsLastCome set stdoff t 0 found
+pub come_at_first : (set : RuleSet) (stdoff t second : ℤ) (found : Option Placed) → IsShift stdoff → second ≡ (t -ℤ pos LONGEST_OFFSET) → IsLastBy set second found → IsLastCome set stdoff t 0 found
 come_at_first set stdoff t second None within second_is none =
     record { settled = λ other is. let late = none other is in omega (arith, ints); none = λ place rule year low. absurd (omega arith) }
 come_at_first set stdoff t second (Some found) within second_is last =
@@ -92,11 +93,11 @@ by_below place at low below here =
     (cases_order at place)
 
 -- what has come of the rule is the one found, or comes two days before t on its own clock
-own_come : (set : RuleSet) (stdoff t : ℤ) (place : ℕ) (rule : Rule) (mark : Mark) (found : Placed) (year : ℤ) → IsShift stdoff → mark.second ≡ (t +ℤ pos 172_801) → mark.line ≡ 0 → LastOfRule rule place mark found → OccursIn rule year → HasCome set stdoff t (in_year rule year) → (in_year rule year ≡ found.occurrence) ⊎ (nominal_second year rule.moment ≤ℤ (t -ℤ pos 172_800))
+own_come : (set : RuleSet) (stdoff t : ℤ) (place : ℕ) (rule : Rule) (mark : Mark) (found : Placed) (year : ℤ) → IsShift stdoff → mark.second ≡ (t +ℤ pos 172_801) → mark.line ≡ 0 → LastOfRule rule place mark found → OccursIn rule year → HasCome set stdoff t (in_year rule year) → (in_year rule year ≡ found.occurrence) ⊎ (nominal_second year rule.moment ≤ℤ (t -ℤ pos LONGEST_OFFSET))
 own_come set stdoff t place rule mark found year within mark_is line own occurs has =
     let near = come_is_near set stdoff t (in_year rule year) within has in
     let found_is : found.occurrence ≡ in_year rule found.occurrence.year = ap (λ (p : Placed). p.occurrence) own.is in
-    let by = before_is_by_second (t +ℤ pos 172_800) mark (in_year rule found.occurrence.year) (omega (arith, ints, mark_is)) line own.before in
+    let by = before_is_by_second (t +ℤ pos LONGEST_OFFSET) mark (in_year rule found.occurrence.year) (omega (arith, ints, mark_is)) line own.before in
     by_lt_z found.occurrence.year year
     (λ lt.
     not_both (is_before mark (in_year rule year)) (earlier_is_before mark (in_year rule year) (omega (arith, ints, mark_is))) (own.last year occurs lt))
@@ -114,7 +115,7 @@ abbrev NotAfterLast : Option Placed → Occurrence → Type 0
 NotAfterLast None x = ⊥
 NotAfterLast (Some last) x = precedes last.occurrence x ≡ false
 
-settled_not_after : (set : RuleSet) (stdoff t : ℤ) (place : ℕ) (last : Option Placed) (x : Occurrence) → IsLastCome set stdoff t place last → IsOccurrence set x → nominal_of x ≤ℤ (t -ℤ pos 172_800) → NotAfterLast last x
+settled_not_after : (set : RuleSet) (stdoff t : ℤ) (place : ℕ) (last : Option Placed) (x : Occurrence) → IsLastCome set stdoff t place last → IsOccurrence set x → nominal_of x ≤ℤ (t -ℤ pos LONGEST_OFFSET) → NotAfterLast last x
 settled_not_after set stdoff t place None x so_far is by =
     let late = so_far.settled x is in
     omega (arith, ints)
@@ -157,11 +158,11 @@ come_none set stdoff t place rule since mark last within mark_is since_is here n
 
 found_not_after : (set : RuleSet) (stdoff t : ℤ) (place : ℕ) (last : Option Placed) (found : Placed) → IsLastCome set stdoff t place last → IsOccurrence set found.occurrence → ¬ (ComesLater set stdoff t last found) → HasCome set stdoff t found.occurrence → NotAfterLast last found.occurrence
 found_not_after set stdoff t place None found so_far is not_later has =
-    by_lt_z (t -ℤ pos 172_800) (nominal_of found.occurrence)
+    by_lt_z (t -ℤ pos LONGEST_OFFSET) (nominal_of found.occurrence)
     (λ near. not_later (record { near = near; follows_it = refl; come = has }))
     (λ by. settled_not_after set stdoff t place None found.occurrence so_far is by)
 found_not_after set stdoff t place (Some last) found so_far is not_later has =
-    by_lt_z (t -ℤ pos 172_800) (nominal_of found.occurrence)
+    by_lt_z (t -ℤ pos LONGEST_OFFSET) (nominal_of found.occurrence)
     (λ near.
     by_test (precedes last.occurrence found.occurrence)
     (λ later. absurd (not_later (record { near = near; follows_it = later; come = has })))
@@ -176,7 +177,7 @@ come_not_later set stdoff t place rule mark last found within mark_is line here 
     ⊎_elim
     (λ (same : in_year rule year ≡ found.occurrence).
     subst (NotAfterLast last) (sym same) (found_not_after set stdoff t place last found so_far is_found not_later (subst (HasCome set stdoff t) same has)))
-    (λ (by : nominal_second year rule.moment ≤ℤ (t -ℤ pos 172_800)). settled_not_after set stdoff t place last (in_year rule year) so_far (occurrence_in set place rule year here occurs) by)
+    (λ (by : nominal_second year rule.moment ≤ℤ (t -ℤ pos LONGEST_OFFSET)). settled_not_after set stdoff t place last (in_year rule year) so_far (occurrence_in set place rule year here occurs) by)
     (own_come set stdoff t place rule mark found year within mark_is line own occurs has))
 
 after_last : (set : RuleSet) (stdoff t : ℤ) (place at : ℕ) (last : Option Placed) (found : Placed) (other : Rule) (year : ℤ) → IsLastCome set stdoff t place last → follows last found ≡ true → at < place → slice_get set.rules at ≡ Some other → OccursIn other year → HasCome set stdoff t (in_year other year) → precedes found.occurrence (in_year other year) ≡ false
@@ -200,7 +201,7 @@ come_later set stdoff t place rule mark last found within mark_is line here own 
           let is : rule ≡ other = same_rule set place at rule other same here there in
           ap (λ (r : Rule). precedes found.occurrence (in_year r year)) (sym is)
           ∙ ⊎_elim (λ (itself : in_year rule year ≡ found.occurrence). subst (λ (x : Occurrence). precedes found.occurrence x ≡ false) (sym itself) (precedes_self found.occurrence))
-          (λ (by : nominal_second year rule.moment ≤ℤ (t -ℤ pos 172_800)). earlier (in_year rule year) (omega (arith, ints)))
+          (λ (by : nominal_second year rule.moment ≤ℤ (t -ℤ pos LONGEST_OFFSET)). earlier (in_year rule year) (omega (arith, ints)))
           (own_come set stdoff t place rule mark found year within mark_is line own (rw is occurs) (rw is has)));
     }
 
@@ -231,7 +232,7 @@ last_come_is_state set stdoff t place (Some found) whole last = (
 )
 
 -- ---- what the test of one occurrence tells
-pub comes_later_is : (set : RuleSet) (stdoff t : ℤ) (last : Option Placed) (found : Placed) (instant : ℤ) → (t -ℤ pos 172_800) <ℤ nominal_of found.occurrence → follows last found ≡ true → ComesAt set stdoff found.occurrence instant → instant ≤ℤ t → ComesLater set stdoff t last found
+pub comes_later_is : (set : RuleSet) (stdoff t : ℤ) (last : Option Placed) (found : Placed) (instant : ℤ) → (t -ℤ pos LONGEST_OFFSET) <ℤ nominal_of found.occurrence → follows last found ≡ true → ComesAt set stdoff found.occurrence instant → instant ≤ℤ t → ComesLater set stdoff t last found
 comes_later_is set stdoff t last found instant near later comes by =
     record { near = near; follows_it = later; come = record { instant = instant; comes = comes; come = by } }
 
@@ -241,7 +242,7 @@ not_come_yet set stdoff t last found instant is comes after later =
     let come = later.come.come in
     omega (arith, ints)
 
-pub not_near : (set : RuleSet) (stdoff t : ℤ) (last : Option Placed) (found : Placed) → nominal_of found.occurrence ≤ℤ (t -ℤ pos 172_800) → ¬ (ComesLater set stdoff t last found)
+pub not_near : (set : RuleSet) (stdoff t : ℤ) (last : Option Placed) (found : Placed) → nominal_of found.occurrence ≤ℤ (t -ℤ pos LONGEST_OFFSET) → ¬ (ComesLater set stdoff t last found)
 not_near set stdoff t last found by later =
     let near = later.near in
     omega (arith, ints)

@@ -2,6 +2,7 @@
 use Rattle.std.proofs.Common.{◌≡◌, inl, inr, arith, ℤ, pos, neg_ℤ, ◌+ℤ◌, ◌-ℤ◌, ◌<ℤ◌, ◌≤ℤ◌, Option, Some, None}
 use Rattle.std.proofs.lemmas.Int.{ints}
 use Rattle.jiff_core.proofs.SignedLemmas.{signed_arith}
+use Rattle.tz_types.specs.declared.limit.TheConstants.{LONGEST_OFFSET}
 use Rattle.tz_types.specs.Amount.{IsShift}
 use Rattle.tz_types.specs.declared.rule.Rule.{Rule}
 use Rattle.tz_types.specs.declared.rule_set.RuleSet.{RuleSet}
@@ -29,12 +30,12 @@ pub nominal_bounds : (set : RuleSet) (other : Occurrence) → IsOccurrence set o
 nominal_bounds set other is = nominal_in_time other.rule other.year (occurs_of_is set other is)
 
 -- an occurrence comes at most two days off its nominal second
-pub comes_after : (set : RuleSet) (stdoff : ℤ) (other : Occurrence) (instant low : ℤ) → IsShift stdoff → ComesAt set stdoff other instant → low <ℤ (nominal_of other -ℤ pos 172_800) → low <ℤ instant
+pub comes_after : (set : RuleSet) (stdoff : ℤ) (other : Occurrence) (instant low : ℤ) → IsShift stdoff → ComesAt set stdoff other instant → low <ℤ (nominal_of other -ℤ pos LONGEST_OFFSET) → low <ℤ instant
 comes_after set stdoff other instant low within comes above =
     let near = comes_near set stdoff other instant within comes in
     omega (arith, ints, near)
 
-pub comes_by : (set : RuleSet) (stdoff : ℤ) (other : Occurrence) (instant high : ℤ) → IsShift stdoff → ComesAt set stdoff other instant → (nominal_of other +ℤ pos 172_800) ≤ℤ high → instant ≤ℤ high
+pub comes_by : (set : RuleSet) (stdoff : ℤ) (other : Occurrence) (instant high : ℤ) → IsShift stdoff → ComesAt set stdoff other instant → (nominal_of other +ℤ pos LONGEST_OFFSET) ≤ℤ high → instant ≤ℤ high
 comes_by set stdoff other instant high within comes below =
     let near = comes_near set stdoff other instant within comes in
     omega (arith, ints, near)

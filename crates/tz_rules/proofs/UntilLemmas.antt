@@ -8,6 +8,7 @@ use Rattle.std.proofs.lemmas.Int.{ints}
 use Rattle.std.proofs.lemmas.Bool.{cases_order, false_from_ne_true}
 use Rattle.std.proofs.lemmas.Option.{none-some}
 use Rattle.jiff_core.specs.Calendar.{IsWithin}
+use Rattle.tz_types.specs.declared.limit.TheConstants.{LONGEST_OFFSET}
 use Rattle.tz_types.specs.Amount.{IsShift}
 use Rattle.tz_types.specs.declared.moment.Moment.{Moment}
 use Rattle.tz_types.specs.declared.rule_set.RuleSet.{RuleSet}
@@ -56,7 +57,7 @@ by_place set place later first second below here there =
     same_one x y e = cc
 
 -- ---- where the walk may start
-early : (nominal start until instant shifted : ℤ) → nominal ≤ℤ start → (start +ℤ pos 345_600) <ℤ until → IsWithin 172_800 (instant -ℤ nominal) → IsWithin 172_800 shifted → instant <ℤ (until -ℤ shifted)
+early : (nominal start until instant shifted : ℤ) → nominal ≤ℤ start → (start +ℤ pos 345_600) <ℤ until → IsWithin LONGEST_OFFSET (instant -ℤ nominal) → IsWithin LONGEST_OFFSET shifted → instant <ℤ (until -ℤ shifted)
 early nominal start until instant shifted below start_early near shift_in = omega (arith, ints, near, shift_in)
 
 comes_early : (set : RuleSet) (stdoff year save : ℤ) (moment : Moment) (next start : Occurrence) (instant : ℤ) → IsShift stdoff → IsShift save → nominal_of next ≤ℤ nominal_of start → (nominal_of start +ℤ pos 345_600) <ℤ nominal_second year moment → ComesAt set stdoff next instant → instant <ℤ until_with stdoff year moment save

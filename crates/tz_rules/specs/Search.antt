@@ -1,6 +1,7 @@
 -- The last occurrence before a mark, and the first one after it: of one rule, of the rules of a set from a
 -- place on, and of a whole set.
 use Rattle.std.specs.Prelude.{◌≡◌, if◌then◌else◌, ℕ, ◌≤◌, ◌⊎◌, ℤ, pos, neg_ℤ, ◌+ℤ◌, ◌-ℤ◌, ◌≤ℤ◌, ◌<ℤ◌, Option, Some, None, false, IsTrue, slice_get}
+use Rattle.tz_types.specs.declared.limit.TheConstants.{LAST_RULE_YEAR}
 use Rattle.tz_types.specs.declared.rule.Rule.{Rule}
 use Rattle.tz_types.specs.declared.rule_set.RuleSet.{RuleSet}
 use Rattle.tz_specs.specs.Occurrence.{Occurrence, nominal_of, precedes}
@@ -18,13 +19,13 @@ in_year rule year = record { rule = rule; year = year }
 pub record IsFirstYear (rule : Rule) (since first : ℤ) : Type 0 where
   pub from : rule.from ≤ℤ first
   pub since_on : since ≤ℤ first
-  pub low : neg_ℤ (pos 9998) ≤ℤ first
+  pub low : neg_ℤ (pos LAST_RULE_YEAR) ≤ℤ first
   pub least : (year : ℤ) → OccursIn rule year → since ≤ℤ year → first ≤ℤ year
 
 pub record IsLastYear (rule : Rule) (through last : ℤ) : Type 0 where
   pub to : last ≤ℤ rule.to
   pub up_to : last ≤ℤ through
-  pub high : last ≤ℤ pos 9998
+  pub high : last ≤ℤ pos LAST_RULE_YEAR
   pub greatest : (year : ℤ) → OccursIn rule year → year ≤ℤ through → year ≤ℤ last
 
 -- how many years there are from the first through the last
@@ -89,11 +90,11 @@ earlier_of (Some other) found = if precedes found.occurrence other.occurrence th
 
 -- the first year in which an occurrence may come later than this one, and the last in which one may come earlier
 abbrev pub since_of : Option Placed → ℤ
-since_of None = neg_ℤ (pos 9998)
+since_of None = neg_ℤ (pos LAST_RULE_YEAR)
 since_of (Some other) = other.occurrence.year -ℤ pos 1
 
 abbrev pub through_of : Option Placed → ℤ
-through_of None = pos 9998
+through_of None = pos LAST_RULE_YEAR
 through_of (Some other) = other.occurrence.year +ℤ pos 1
 
 -- ---- of a set

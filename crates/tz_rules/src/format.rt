@@ -2,6 +2,7 @@
 ghost use Rattle.std.specs.Prelude.{◌≡◌, ◌+◌, ◌≤◌, ◌<◌, ◌++◌, length, take, IsTrue};
 ghost use Rattle.std.specs.List.{list_all};
 ghost use Rattle.jiff_core.specs.Calendar.{IsWithin};
+ghost use Rattle.tz_types.specs.declared.limit.TheConstants.{LONGEST_OFFSET};
 ghost use Rattle.tz_types.specs.Text.{is_printable};
 ghost use Rattle.tz_types.specs.Format.{is_format};
 ghost use Rattle.tz_specs.specs.Abbreviation.{offset_text, abbreviation};
@@ -42,7 +43,7 @@ fn digit(n: u64) -> u8
 
 /// An offset with its sign, its hours, its minutes and its seconds.
 fn offset_bytes(offset: i64) -> [u8; 7]
-    requires { IsWithin 172_800 offset }
+    requires { IsWithin LONGEST_OFFSET offset }
     ensures { result ≡ offset_with_seconds offset }
 {
     let size = offset.unsigned_abs();
@@ -60,7 +61,7 @@ fn offset_bytes(offset: i64) -> [u8; 7]
 
 /// How much of it is written: the shortest that loses nothing.
 fn offset_len(offset: i64) -> usize
-    requires { IsWithin 172_800 offset }
+    requires { IsWithin LONGEST_OFFSET offset }
     ensures bound { result ≤ 7 }
     ensures text { take result (offset_with_seconds offset) ≡ offset_text offset }
 {
@@ -78,7 +79,7 @@ fn offset_len(offset: i64) -> usize
 #[tactic(auto, unfolding(tz_specs::specs::Abbreviation::abbreviation))]
 pub fn abbreviation(format: &Format, in_force: &InForce<'_>, offset: i64) -> Abbrev
     requires format_in { IsTrue (is_format format.now) }
-    requires offset_in { IsWithin 172_800 offset }
+    requires offset_in { IsWithin LONGEST_OFFSET offset }
     ensures { result ≡ abbreviation format.now in_force.now offset }
 {
     match format {

@@ -2,7 +2,7 @@
 //! daylight time, and the letters that stand for `%s`.
 ghost use Rattle.std.specs.Prelude.{◌≡◌, ℤ, [], pos, ◌+ℤ◌, false};
 ghost use Rattle.jiff_core.specs.Calendar.{IsWithin};
-ghost use Rattle.tz_types.specs.declared.limit.TheConstants.{LONGEST_LETTERS};
+ghost use Rattle.tz_types.specs.declared.limit.TheConstants.{LONGEST_LETTERS, LONGEST_OFFSET};
 ghost use Rattle.tz_types.specs.Amount.{IsShift};
 ghost use Rattle.tz_types.specs.Text.{IsText};
 ghost use Rattle.tz_specs.specs.State.{put_in_force};
@@ -93,7 +93,7 @@ impl<'a> InForce<'a> {
     pub fn offset(&self, stdoff: i64) -> i64
         requires { IsShift stdoff }
         ensures value { result ≡ (stdoff +ℤ self.now.save) }
-        ensures bound { IsWithin 172_800 result }
+        ensures bound { IsWithin LONGEST_OFFSET result }
     {
         stdoff + self.save
     }

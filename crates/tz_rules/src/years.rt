@@ -4,13 +4,13 @@ ghost use Rattle.jiff_core.specs.Calendar.{IsYear};
 ghost use Rattle.tz_types.specs.Year.{IsWrittenYear};
 ghost use Rattle.tz_rules.specs.Search.{IsFirstYear, IsLastYear, IsYearCount};
 
-use tz_types::Rule;
+use tz_types::{LAST_RULE_YEAR, Rule};
 
 /// The first year in which rules occur.
-pub(crate) const FIRST_YEAR: i32 = -9998;
+pub(crate) const FIRST_YEAR: i32 = -(LAST_RULE_YEAR as i32);
 
 /// The last year in which rules occur.
-pub(crate) const LAST_YEAR: i32 = 9998;
+pub(crate) const LAST_YEAR: i32 = LAST_RULE_YEAR as i32;
 
 /// The first year from `since` on in which the rule occurs, if it occurs in any later one.
 pub(crate) fn first_year(rule: &Rule, since: i32) -> i32

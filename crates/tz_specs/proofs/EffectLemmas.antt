@@ -10,6 +10,7 @@ use Rattle.tz_types.specs.declared.moment.AtKind.TheVariants as kinds
 use Rattle.std.proofs.lemmas.Int.{ints}
 use Rattle.std.proofs.lemmas.Bool.{cases_order, false_from_ne_true}
 use Rattle.std.proofs.lemmas.Option.{same_Some, none-some}
+use Rattle.tz_types.specs.declared.limit.TheConstants.{LONGEST_OFFSET}
 use Rattle.tz_types.specs.declared.rule_set.RuleSet.{RuleSet}
 use Rattle.tz_specs.specs.Occurrence.{Occurrence, nominal_of, precedes, occurrences}
 use Rattle.tz_specs.specs.State.{shift, instants, instants_from, state_at, in_force, put_in_force, before_first, first_letters}
@@ -239,7 +240,7 @@ takes_from_effect set stdoff instant occurrence comes effect =
     (here.0, place_comes_at set stdoff here.0 occurrence instant here.1 comes, state_from_in_effect set stdoff instant here.0 occurrence here.1 effect)
 
 -- ---- how far an instant lies from its nominal second
-pub shift_near : (kind : AtKind) (stdoff save : ℤ) → IsShift stdoff → IsShift save → IsWithin 172_800 (shift kind stdoff save)
+pub shift_near : (kind : AtKind) (stdoff save : ℤ) → IsShift stdoff → IsShift save → IsWithin LONGEST_OFFSET (shift kind stdoff save)
 shift_near kinds.Universal stdoff save here there = (omega (arith, ints), omega (arith, ints))
 shift_near kinds.Standard stdoff save here there = (omega (arith, ints, here), omega (arith, ints, here))
 shift_near kinds.Wall stdoff save here there = (omega (arith, ints, here, there), omega (arith, ints, here, there))
@@ -252,7 +253,7 @@ save_near set occurrence save has =
     rw later.2 within)
     has
 
-pub comes_near : (set : RuleSet) (stdoff : ℤ) (occurrence : Occurrence) (instant : ℤ) → IsShift stdoff → ComesAt set stdoff occurrence instant → IsWithin 172_800 (instant -ℤ nominal_of occurrence)
+pub comes_near : (set : RuleSet) (stdoff : ℤ) (occurrence : Occurrence) (instant : ℤ) → IsShift stdoff → ComesAt set stdoff occurrence instant → IsWithin LONGEST_OFFSET (instant -ℤ nominal_of occurrence)
 comes_near set stdoff occurrence instant within comes =
     let near = shift_near occurrence.rule.moment.kind stdoff comes.save within (save_near set occurrence comes.save comes.save_before) in
     let is = comes.on_its_clock in

@@ -7,6 +7,7 @@ use Rattle.std.proofs.lemmas.Bool.Decides.{nat_tests}
 use Rattle.std.proofs.lemmas.List.Sorted.{All-permutation}
 use Rattle.jiff_core.specs.Calendar.{IsBetween, days_from_civil, days_in_month}
 use Rattle.jiff_core.proofs.SignedLemmas.{signed_arith}
+use Rattle.tz_types.specs.declared.limit.TheConstants.{LAST_RULE_YEAR}
 use Rattle.tz_types.specs.Calendar.{month_number, is_day_up_to}
 use Rattle.tz_types.specs.Year.{IsRuleYear}
 use Rattle.tz_types.specs.declared.calendar.Month.{Month}
@@ -38,13 +39,13 @@ only_some false x y h = absurd (cc)
 
 year_within : (field : List ℕ) (year : ℤ) → rule_year_of field ≡ Some year → IsRuleYear year
 year_within field year h =
-    let number = bind_some (year_of field) (λ year. only_if (nat_le (unsigned_abs year) 9998) year) year h in
-    let test = only_some (nat_le (unsigned_abs number.0) 9998) number.0 year number.2 in
+    let number = bind_some (year_of field) (λ year. only_if (nat_le (unsigned_abs year) LAST_RULE_YEAR) year) year h in
+    let test = only_some (nat_le (unsigned_abs number.0) LAST_RULE_YEAR) number.0 year number.2 in
     subst IsRuleYear test.1 (size_within number.0 test.0)
   where
-    size_within : (value : ℤ) → IsTrue (nat_le (unsigned_abs value) 9998) → IsRuleYear value
+    size_within : (value : ℤ) → IsTrue (nat_le (unsigned_abs value) LAST_RULE_YEAR) → IsRuleYear value
     size_within value h =
-        let low : unsigned_abs value ≤ 9998 = grind (arith, nat_tests) in
+        let low : unsigned_abs value ≤ LAST_RULE_YEAR = grind (arith, nat_tests) in
         (omega (arith, ints), omega (arith, ints))
 
 day_within : (year : ℤ) (month : Month) (field : List ℕ) (day : ℕ) → leap_day_of year month field ≡ Some day → IsInRange 1 (days_in_month year (month_number month)) day

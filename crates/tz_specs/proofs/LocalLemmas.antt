@@ -5,6 +5,7 @@ use Rattle.std.proofs.lemmas.Int.{ints, by_lt_z}
 use Rattle.std.proofs.lemmas.Bool.{cond-true, cond-false, and_parts, and_from, false_from_ne_true}
 use Rattle.std.proofs.lemmas.Option.{same_Some, none-some}
 use Rattle.jiff_core.specs.Calendar.{IsWithin}
+use Rattle.tz_types.specs.declared.limit.TheConstants.{LONGEST_OFFSET}
 use Rattle.tz_types.specs.declared.range.SysInfo.{SysInfo}
 use Rattle.tz_types.specs.declared.range.LocalInfo.{LocalInfo}
 use Rattle.tz_types.specs.declared.range.LocalInfo.TheVariants.{Unique, Nonexistent, Ambiguous}
@@ -172,14 +173,14 @@ pub some_is : {X : Type 0} (o : Option X) (x : X) → o ≡ Some x → IsSome o
 some_is o x e = rw e
 
 -- ---- inside the margins each local time is told
-pub told_inside : (a b l : ℤ) (ranges : List SysInfo) → Covers a b ranges → ((range : SysInfo) → In range ranges → IsWithin 172_800 range.offset) → (a +ℤ pos 172_800) ≤ℤ l → l <ℤ (b -ℤ pos 172_800) → IsSome (local_info ranges l)
+pub told_inside : (a b l : ℤ) (ranges : List SysInfo) → Covers a b ranges → ((range : SysInfo) → In range ranges → IsWithin LONGEST_OFFSET range.offset) → (a +ℤ pos LONGEST_OFFSET) ≤ℤ l → l <ℤ (b -ℤ pos LONGEST_OFFSET) → IsSome (local_info ranges l)
 told_inside a b l ranges covers small low high =
     by_length (candidates ranges l)
     (λ none. gap_inside a b l ranges covers small low high none)
     (λ range one. some_is (local_info ranges l) (Unique range) (local_info-one ranges l range one))
     (λ range next later more. some_is (local_info ranges l) (Ambiguous range (last_from next later)) (local_info-more ranges l range next later more))
   where
-    gap_inside : (a b l : ℤ) (ranges : List SysInfo) → Covers a b ranges → ((range : SysInfo) → In range ranges → IsWithin 172_800 range.offset) → (a +ℤ pos 172_800) ≤ℤ l → l <ℤ (b -ℤ pos 172_800) → candidates ranges l ≡ [] → IsSome (local_info ranges l)
+    gap_inside : (a b l : ℤ) (ranges : List SysInfo) → Covers a b ranges → ((range : SysInfo) → In range ranges → IsWithin LONGEST_OFFSET range.offset) → (a +ℤ pos LONGEST_OFFSET) ≤ℤ l → l <ℤ (b -ℤ pos LONGEST_OFFSET) → candidates ranges l ≡ [] → IsSome (local_info ranges l)
     gap_inside a b l [] covers small low high none = absurd (omega (arith, ints))
     gap_inside a b l (first ∷ later) covers small low high none =
         let ranges : List SysInfo = first ∷ later in

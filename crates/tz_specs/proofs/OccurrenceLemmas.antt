@@ -5,6 +5,7 @@ use Rattle.std.specs.List.{range_with_len}
 use Rattle.std.proofs.lemmas.Int.{ints, by_lt_z}
 use Rattle.std.proofs.lemmas.Bool.{and_parts, and_from, ltb-true, cases_order}
 use Rattle.std.proofs.lemmas.Option.{same_Some}
+use Rattle.tz_types.specs.declared.limit.TheConstants.{LAST_RULE_YEAR}
 use Rattle.tz_types.specs.declared.rule.Rule.{Rule}
 use Rattle.tz_types.specs.declared.rule_set.RuleSet.{RuleSet}
 use Rattle.tz_types.specs.Order.{ascends, ascends_after}
@@ -18,7 +19,7 @@ use Rattle.tz_specs.proofs.OrderLemmas.{true-precedes, In-in_order, In-in_order_
 
 -- ---- the years
 abbrev year_number : ℕ → ℤ
-year_number n = pos n -ℤ pos 9998
+year_number n = pos n -ℤ pos LAST_RULE_YEAR
 
 rule_years_is : (count : ℕ) → 19_997 ≡ count → rule_years ≡ map year_number (range_with_len 0 count)
 unfolding rule_years
@@ -32,13 +33,13 @@ years-back : (count : ℕ) → 19_997 ≡ count → (year : ℤ) → In year (ma
 years-back count e year has =
     let there = In-map_back year_number (range_with_len 0 count) year has in
     let within = In-range_back count 0 there.0 there.1 in
-    let is : (pos there.0 -ℤ pos 9998) ≡ year = there.2 in
+    let is : (pos there.0 -ℤ pos LAST_RULE_YEAR) ≡ year = there.2 in
     (omega (arith, ints, within), omega (arith, ints, within))
 
 years-in : (count : ℕ) → 19_997 ≡ count → (year : ℤ) → IsRuleYear year → In year (map year_number (range_with_len 0 count))
 years-in count e year within =
-    let n = natural_of (year +ℤ pos 9998) (omega (arith, ints, within)) in
-    let is : pos n.0 ≡ (year +ℤ pos 9998) = n.1 in
+    let n = natural_of (year +ℤ pos LAST_RULE_YEAR) (omega (arith, ints, within)) in
+    let is : pos n.0 ≡ (year +ℤ pos LAST_RULE_YEAR) = n.1 in
     let low : pos n.0 <ℤ pos 19_997 = omega (arith, ints, within) in
     let same : year_number n.0 ≡ year = omega (arith, ints) in
     let there = In-map year_number (range_with_len 0 count) n.0 (In-range count 0 n.0 (omega arith) (omega (arith, ints))) in

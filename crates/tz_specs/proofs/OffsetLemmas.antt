@@ -4,7 +4,7 @@ use Rattle.std.specs.Prelude.{slice_get}
 use Rattle.std.proofs.lemmas.Int.{ints}
 use Rattle.std.proofs.lemmas.Bool.{leb-true}
 use Rattle.jiff_core.specs.Calendar.{IsWithin}
-use Rattle.tz_types.specs.declared.limit.TheConstants.{LONGEST_SHIFT}
+use Rattle.tz_types.specs.declared.limit.TheConstants.{LONGEST_SHIFT, LONGEST_OFFSET}
 use Rattle.tz_types.specs.Amount.{IsShift}
 use Rattle.tz_types.specs.Saves.{is_fixed_save}
 use Rattle.tz_types.specs.declared.rule_set.RuleSet.{RuleSet}
@@ -61,26 +61,26 @@ state_small period t small =
     (λ save daylight e. rw e (small_save period.following save daylight e small))
     (λ set e. rw e (in_force_small (occurrences set) (state_at (instants period.stdoff (occurrences set)) t)))
 
-range_small : (period : Period) (begin end : ℤ) → IsShift period.stdoff → HasSmallSave period.following → IsWithin 172_800 (range_of period begin end).offset
+range_small : (period : Period) (begin end : ℤ) → IsShift period.stdoff → HasSmallSave period.following → IsWithin LONGEST_OFFSET (range_of period begin end).offset
 range_small period begin end here small =
     let save = state_small period begin small in
     (omega (arith, ints, here, save), omega (arith, ints, here, save))
 
-pieces_small : (period : Period) (begin : ℤ) (cuts : List ℤ) (range : SysInfo) → IsShift period.stdoff → HasSmallSave period.following → In range (pieces_of period begin cuts) → IsWithin 172_800 range.offset
+pieces_small : (period : Period) (begin : ℤ) (cuts : List ℤ) (range : SysInfo) → IsShift period.stdoff → HasSmallSave period.following → In range (pieces_of period begin cuts) → IsWithin LONGEST_OFFSET range.offset
 pieces_small period begin [] range here small has =
     ⊎_elim
     (λ (same : range_of period begin period.finish ≡ range).
-    subst (λ (r : SysInfo). IsWithin 172_800 r.offset) same (range_small period begin period.finish here small))
+    subst (λ (r : SysInfo). IsWithin LONGEST_OFFSET r.offset) same (range_small period begin period.finish here small))
     (λ (nothing : ⊥). absurd nothing)
     has
 pieces_small period begin (cut ∷ cuts) range here small has =
     ⊎_elim
     (λ (same : range_of period begin cut ≡ range).
-    subst (λ (r : SysInfo). IsWithin 172_800 r.offset) same (range_small period begin cut here small))
+    subst (λ (r : SysInfo). IsWithin LONGEST_OFFSET r.offset) same (range_small period begin cut here small))
     (λ (later : In range (pieces_of period cut cuts)). pieces_small period cut cuts range here small later)
     has
 
-ranges_small : (period : Period) (range : SysInfo) → IsShift period.stdoff → HasSmallSave period.following → In range (ranges_of period) → IsWithin 172_800 range.offset
+ranges_small : (period : Period) (range : SysInfo) → IsShift period.stdoff → HasSmallSave period.following → In range (ranges_of period) → IsWithin LONGEST_OFFSET range.offset
 unfolding ranges_of
 ranges_small period range here small has = pieces_small period period.start (cuts_of period) range here small has
 
@@ -108,7 +108,7 @@ periods_small sets start (line ∷ lines) period has =
     (λ (later : In period (periods_from sets (finish_of sets line) lines)). periods_small sets (finish_of sets line) lines period later)
     has
 
-pub zone_offsets_small : (db : Db) (zone : Zone) (range : SysInfo) → In range (full_expansion (periods_of db zone)) → IsWithin 172_800 range.offset
+pub zone_offsets_small : (db : Db) (zone : Zone) (range : SysInfo) → In range (full_expansion (periods_of db zone)) → IsWithin LONGEST_OFFSET range.offset
 unfolding periods_of
 zone_offsets_small db zone range has =
     let there = In-expansion_back (periods_from db.sets first_instant zone.lines) range has in
@@ -116,7 +116,7 @@ zone_offsets_small db zone range has =
     ranges_small there.0 range small.0 small.1 there.2
 
 -- so every local time two days inside of time is told
-pub sound_local_times : (db : Db) (zone : Zone) (l : ℤ) → IsSound db zone → (first_instant +ℤ pos 172_800) ≤ℤ l → l <ℤ (end_of_time -ℤ pos 172_800) → IsSome (local_info (full_expansion (periods_of db zone)) l)
+pub sound_local_times : (db : Db) (zone : Zone) (l : ℤ) → IsSound db zone → (first_instant +ℤ pos LONGEST_OFFSET) ≤ℤ l → l <ℤ (end_of_time -ℤ pos LONGEST_OFFSET) → IsSome (local_info (full_expansion (periods_of db zone)) l)
 sound_local_times db zone l sound low high =
     told_inside first_instant end_of_time l (full_expansion (periods_of db zone)) (expansion_covers first_instant end_of_time (periods_of db zone) sound)
     (λ range has. zone_offsets_small db zone range has) low high

@@ -4,6 +4,7 @@ use Rattle.std.proofs.lemmas.Int.{ints}
 use Rattle.jiff_core.specs.Calendar.{IsYear, IsWithin}
 use Rattle.jiff_core.proofs.CalendarLemmas.{days_from_civil-day_count, day_count-next_year, day_count-later_year, day_count-year_bounds, day_count-min, days_in_year_bounds}
 use Rattle.jiff_core.proofs.SignedLemmas.{signed_arith}
+use Rattle.tz_types.specs.declared.limit.TheConstants.{LONGEST_OFFSET}
 use Rattle.tz_types.specs.Year.{IsRuleYear}
 use Rattle.tz_types.specs.Amount.{IsShift}
 use Rattle.tz_types.specs.Calendar.{has_day, day_number}
@@ -205,7 +206,7 @@ day_in_time year next month on year_in is has =
     let there = days_from_civil-day_count next 1 1 in
     (omega (arith, signed_arith, near.0), omega (arith, signed_arith, near.1))
 
-ends_inside : (instant day at shift : ℤ) → instant ≡ (((pos 86_400 *ℤ day) +ℤ at) -ℤ shift) → (neg_ℤ (pos 4_371_228) ≤ℤ day) × (day ≤ℤ pos 2_932_538) → IsWithin 3_600_001 at → IsWithin 172_800 shift → (first_instant <ℤ instant) × (instant <ℤ end_of_time)
+ends_inside : (instant day at shift : ℤ) → instant ≡ (((pos 86_400 *ℤ day) +ℤ at) -ℤ shift) → (neg_ℤ (pos 4_371_228) ≤ℤ day) × (day ≤ℤ pos 2_932_538) → IsWithin 3_600_001 at → IsWithin LONGEST_OFFSET shift → (first_instant <ℤ instant) × (instant <ℤ end_of_time)
 ends_inside instant day at shift is days at_in near =
     (omega (arith, signed_arith, is, days, at_in, near), omega (arith, signed_arith, is, days, at_in, near))
 

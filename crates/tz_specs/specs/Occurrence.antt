@@ -1,7 +1,8 @@
 -- When rules occur, after zic(8), "Rule lines": each rule once in each of its years.
-use Rattle.std.specs.Prelude.{Bool, ◌&&◌, ◌||◌, if◌then◌else◌, nat_lt, int_lt, int_le, List, [], ◌∷◌, map, filter, flat_map, ℤ, pos, ◌+ℤ◌, ◌-ℤ◌, ◌*ℤ◌}
+use Rattle.std.specs.Prelude.{◌+◌, ◌*◌, Bool, ◌&&◌, ◌||◌, if◌then◌else◌, nat_lt, int_lt, int_le, List, [], ◌∷◌, map, filter, flat_map, ℤ, pos, ◌+ℤ◌, ◌-ℤ◌, ◌*ℤ◌}
 use Rattle.std.specs.List.{range_with_len}
 use Rattle.std.specs.Ordering.{int_eq}
+use Rattle.tz_types.specs.declared.limit.TheConstants.{LAST_RULE_YEAR}
 use Rattle.tz_types.specs.declared.moment.Moment.{Moment}
 use Rattle.tz_types.specs.declared.rule.Rule.{Rule}
 use Rattle.tz_types.specs.declared.rule_set.RuleSet.{RuleSet}
@@ -22,7 +23,7 @@ nominal_of occurrence = nominal_second occurrence.year occurrence.rule.moment
 
 -- the years in which rules may occur: -9998 to 9998
 unfoldable pub rule_years : List ℤ
-rule_years = map (λ n. pos n -ℤ pos 9998) (range_with_len 0 19_997)
+rule_years = map (λ n. pos n -ℤ pos LAST_RULE_YEAR) (range_with_len 0 (2 * LAST_RULE_YEAR + 1))
 
 -- the year is one from FROM to TO
 abbrev pub is_year_of : Rule → ℤ → Bool

@@ -4,7 +4,7 @@ use Rattle.std.specs.List.{list_all, list_any}
 use Rattle.std.specs.Ordering.{int_eq}
 use Rattle.std.specs.Cmp.Lexicographic.{pointwise}
 use Rattle.tz_types.specs.Amount.{is_shift}
-use Rattle.tz_types.specs.declared.limit.TheConstants.{LONGEST_NAME}
+use Rattle.tz_types.specs.declared.limit.TheConstants.{LONGEST_NAME, LAST_RULE_YEAR, LAST_WRITTEN_YEAR}
 use Rattle.tz_types.specs.Text.{is_printable}
 use Rattle.tz_types.specs.Calendar.{has_day, has_day_through}
 use Rattle.tz_types.specs.declared.calendar.Month.{Month}
@@ -50,9 +50,9 @@ all_months =
 unfoldable pub month_named : List ℕ → Option Month
 month_named word = named_entry word month_table >>= λ place. slice_get all_months place
 
--- a year from -9998 to 9998
+-- a year from -LAST_RULE_YEAR to LAST_RULE_YEAR
 abbrev pub rule_year_of : List ℕ → Option ℤ
-rule_year_of field = year_of field >>= λ year. only_if (nat_le (unsigned_abs year) 9998) year
+rule_year_of field = year_of field >>= λ year. only_if (nat_le (unsigned_abs year) LAST_RULE_YEAR) year
 
 -- TO as a word: `maximum` is a year after all others, `minimum` isn't built, and `only` is FROM
 abbrev pub last_year_table : List ℕ
@@ -60,7 +60,7 @@ last_year_table = codes "maximum minimum only"
 
 abbrev pub last_year_named : ℤ → List ℕ → Option ℤ
 last_year_named from word =
-    named_entry word last_year_table >>= λ place. slice_index_or (Some (pos 999_999_999) ∷ None ∷ Some from ∷ []) place None
+    named_entry word last_year_table >>= λ place. slice_index_or (Some (pos LAST_WRITTEN_YEAR) ∷ None ∷ Some from ∷ []) place None
 
 -- FROM and TO: two years, where TO may be a word
 unfoldable pub years_of : List ℕ → List ℕ → Option (ℤ × ℤ)

@@ -1,6 +1,7 @@
 //! Laws: which occurrence is in effect, and what it puts in force.
 ghost use Rattle.std.specs.Prelude.{◌≡◌, ℕ, suc, ◌↔◌, ◌⊎◌, ℤ, pos, ◌-ℤ◌, [], Some, slice_get};
 ghost use Rattle.jiff_core.specs.Calendar.{IsWithin};
+ghost use Rattle.tz_types.specs.declared.limit.TheConstants.{LONGEST_OFFSET};
 ghost use Rattle.tz_types.specs.Amount.{IsShift};
 ghost use Rattle.tz_types.specs.declared.rule_set.RuleSet.{RuleSet};
 ghost use Rattle.tz_types.specs.declared.moment.Moment.{Moment};
@@ -16,7 +17,7 @@ pub fn instants_follow_the_clock_before()
     ensures number { (set : RuleSet) (stdoff : ℤ) (place : ℕ) (occurrence : Occurrence) (instant : ℤ) → slice_get (occurrences set) place ≡ Some occurrence → (slice_get (instants stdoff (occurrences set)) place ≡ Some instant) ↔ ComesAt set stdoff occurrence instant }
     ensures somewhen { (set : RuleSet) (stdoff : ℤ) (occurrence : Occurrence) → IsOccurrence set occurrence → (instant : ℤ) × ComesAt set stdoff occurrence instant }
     ensures once { (set : RuleSet) (stdoff : ℤ) (occurrence : Occurrence) (first second : ℤ) → IsOccurrence set occurrence → ComesAt set stdoff occurrence first → ComesAt set stdoff occurrence second → first ≡ second }
-    ensures near { (set : RuleSet) (stdoff : ℤ) (occurrence : Occurrence) (instant : ℤ) → IsShift stdoff → ComesAt set stdoff occurrence instant → IsWithin 172_800 (instant -ℤ nominal_of occurrence) }
+    ensures near { (set : RuleSet) (stdoff : ℤ) (occurrence : Occurrence) (instant : ℤ) → IsShift stdoff → ComesAt set stdoff occurrence instant → IsWithin LONGEST_OFFSET (instant -ℤ nominal_of occurrence) }
 {}
 
 /// The state at `t` is the number of the occurrence in effect, and 0 where none is. There is always exactly one of the two.

@@ -2,6 +2,7 @@
 ghost use Rattle.std.specs.Prelude.{◌≡◌, ◌↔◌, ℤ, pos, ◌+ℤ◌, ◌-ℤ◌, ◌<ℤ◌, ◌≤ℤ◌, List, Some, IsSome};
 ghost use Rattle.std.specs.List.{All};
 ghost use Rattle.jiff_core.specs.Calendar.{IsWithin};
+ghost use Rattle.tz_types.specs.declared.limit.TheConstants.{LONGEST_OFFSET};
 ghost use Rattle.tz_types.specs.declared.range.SysInfo.{SysInfo};
 ghost use Rattle.tz_types.specs.declared.range.LocalInfo.TheVariants.{Unique, Nonexistent, Ambiguous};
 ghost use Rattle.tz_specs.specs.Local.{local_info};
@@ -10,7 +11,7 @@ ghost use Rattle.tz_specs.specs.Shown.{IsShownOnce, IsShownTwice, IsInGap};
 
 /// Each local time is told that lies two days inside the ends of ranges whose offsets are at most two days.
 pub fn local_times_are_told()
-    ensures { (a b l : ℤ) (ranges : List SysInfo) → Covers a b ranges → All (λ range. IsWithin 172_800 range.offset) ranges → (a +ℤ pos 172_800) ≤ℤ l → l <ℤ (b -ℤ pos 172_800) → IsSome (local_info ranges l) }
+    ensures { (a b l : ℤ) (ranges : List SysInfo) → Covers a b ranges → All (λ range. IsWithin LONGEST_OFFSET range.offset) ranges → (a +ℤ pos LONGEST_OFFSET) ≤ℤ l → l <ℤ (b -ℤ pos LONGEST_OFFSET) → IsSome (local_info ranges l) }
 {}
 
 /// A local time is unique exactly where one range alone shows it, and ambiguous exactly where several do, of which the first

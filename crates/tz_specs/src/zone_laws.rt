@@ -2,6 +2,7 @@
 ghost use Rattle.std.specs.Prelude.{◌≡◌, ℤ, pos, ◌+ℤ◌, ◌-ℤ◌, ◌<ℤ◌, ◌≤ℤ◌, Some, IsSome, IsTrue};
 ghost use Rattle.std.specs.List.{Contains};
 ghost use Rattle.jiff_core.specs.Calendar.{IsWithin};
+ghost use Rattle.tz_types.specs.declared.limit.TheConstants.{LONGEST_OFFSET};
 ghost use Rattle.tz_types.specs.declared.database.Db.{Db};
 ghost use Rattle.tz_types.specs.declared.range.SysInfo.{SysInfo};
 ghost use Rattle.tz_types.specs.declared.zone.Zone.{Zone};
@@ -14,6 +15,6 @@ ghost use Rattle.tz_specs.specs.Cover.{Covers, IsSound};
 pub fn sound_zones_tell_all_times()
     ensures covered { (db : Db) (zone : Zone) → IsSound db zone → Covers first_instant end_of_time (full_expansion (periods_of db zone)) }
     ensures instants { (db : Db) (zone : Zone) (t : ℤ) → IsSound db zone → IsInstant t → (range : SysInfo) × (range_at (full_expansion (periods_of db zone)) t ≡ Some range) × IsTrue (holds_instant t range) }
-    ensures offsets { (db : Db) (zone : Zone) (range : SysInfo) → Contains (full_expansion (periods_of db zone)) range → IsWithin 172_800 range.offset }
-    ensures local_times { (db : Db) (zone : Zone) (l : ℤ) → IsSound db zone → (first_instant +ℤ pos 172_800) ≤ℤ l → l <ℤ (end_of_time -ℤ pos 172_800) → IsSome (local_info (full_expansion (periods_of db zone)) l) }
+    ensures offsets { (db : Db) (zone : Zone) (range : SysInfo) → Contains (full_expansion (periods_of db zone)) range → IsWithin LONGEST_OFFSET range.offset }
+    ensures local_times { (db : Db) (zone : Zone) (l : ℤ) → IsSound db zone → (first_instant +ℤ pos LONGEST_OFFSET) ≤ℤ l → l <ℤ (end_of_time -ℤ pos LONGEST_OFFSET) → IsSome (local_info (full_expansion (periods_of db zone)) l) }
 {}

@@ -1,5 +1,6 @@
 //! Amounts of time, in seconds (zic(8), "Rule lines", AT and SAVE).
 ghost use Rattle.std.specs.Prelude.{◌≡◌, ◌<◌, ◌≤◌, ◌^◌, ◌*◌, length, pos, IfSome, Some, option_map};
+ghost use Rattle.tz_types.specs.declared.limit.TheConstants.{LONGEST_TIME};
 ghost use Rattle.tz_types.specs.Amount.{IsTimeOfDay};
 ghost use Rattle.tz_specs.specs.Choice.{only_if};
 ghost use Rattle.tz_specs.specs.Number.{number_of, are_digits};
@@ -128,7 +129,7 @@ fn few_hours(word: &[u8]) -> Option<u64>
 #[tactic(auto, using(crate::proofs::Sizes::size_is))]
 fn size(word: &[u8]) -> Option<u64>
     ensures value { result ≡ size_of word.now }
-    ensures bound { IfSome result (λ seconds. seconds ≤ 3_600_001) }
+    ensures bound { IfSome result (λ seconds. seconds ≤ LONGEST_TIME) }
 {
     if let Some(seconds) = few_hours(word) {
         return Some(seconds);
@@ -157,7 +158,7 @@ fn split_suffix<'a>(word: &'a [u8], letters: &[u8]) -> (&'a [u8], u8)
 /// The amount without a sign, and its suffix.
 fn unsigned(word: &[u8], letters: &[u8]) -> Option<(u64, u8)>
     ensures value { result ≡ unsigned_amount letters.now word.now }
-    ensures bound { IfSome result (λ amount. amount.0 ≤ 3_600_001) }
+    ensures bound { IfSome result (λ amount. amount.0 ≤ LONGEST_TIME) }
 {
     let (front, suffix) = split_suffix(word, letters);
     Some((size(front)?, suffix))

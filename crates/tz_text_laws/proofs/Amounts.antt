@@ -3,6 +3,7 @@ use Rattle.std.proofs.Common.{◌≡◌, ℕ, ◌+◌, ◌*◌, ◌<◌, ◌≤�
 use Rattle.std.proofs.lemmas.Bool.{cases_Bool}
 use Rattle.std.proofs.lemmas.Bool.Decides.{nat_tests}
 use Rattle.jiff_core.proofs.SignedLemmas.{signed_arith}
+use Rattle.tz_types.specs.declared.limit.TheConstants.{LONGEST_TIME}
 use Rattle.tz_types.specs.Amount.{IsTimeOfDay}
 use Rattle.tz_specs.specs.Choice.{◌>>=◌, only_if}
 use Rattle.tz_specs.specs.Parts.{parts_at}
@@ -66,7 +67,7 @@ clock_below (hours ∷ minutes ∷ seconds ∷ other ∷ parts) size h = absurd 
 rounded_below : (size : Length) → rounded size ≤ size.whole + 1
 rounded_below size = grind arith
 
-size_below : (word : List ℕ) (size : ℕ) → size_of word ≡ Some size → size ≤ 3_600_001
+size_below : (word : List ℕ) (size : ℕ) → size_of word ≡ Some size → size ≤ LONGEST_TIME
 unfolding size_of
 size_below word size h =
     let clock = map_some rounded (clock_of (parts_at 0x3a word)) size h in
@@ -75,7 +76,7 @@ size_below word size h =
     let same = clock.2 in
     omega (arith, low, near, same)
 
-unsigned_below : (letters word : List ℕ) (amount : ℕ × ℕ) → unsigned_amount letters word ≡ Some amount → amount.0 ≤ 3_600_001
+unsigned_below : (letters word : List ℕ) (amount : ℕ × ℕ) → unsigned_amount letters word ≡ Some amount → amount.0 ≤ LONGEST_TIME
 unsigned_below letters word amount h =
     let size = map_some (λ size. (size, (suffix_split letters word).1)) (size_of (suffix_split letters word).0) amount h in
     let low = size_below (suffix_split letters word).0 size.0 size.1 in

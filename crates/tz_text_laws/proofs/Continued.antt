@@ -11,7 +11,7 @@ use Rattle.tz_specs.specs.Line.{lines_of}
 use Rattle.tz_specs.specs.Written.{WrittenLine, WrittenZone, Record, RuleRecord, ZoneRecord, Continuation, LinkRecord}
 use Rattle.tz_specs.specs.Contents.{Contents, last_lines, wants_line, waits, exceeds_lines, with_line, with_record, no_contents, at_end_of_file, line_says, contents_after, contents_over, contents_of}
 use Rattle.tz_database.proofs.ZoneTime.{goes_on}
-use Rattle.tz_lines.specs.Following.{are_before}
+use Rattle.tz_lines.specs.RecordOrder.{are_before}
 use Rattle.tz_lines.proofs.Records.{Follows, follows, still_before}
 use Rattle.tz_lines.proofs.GatheredLines.{given_by, after_line, after_all, files_after, after_file, over_all, files_from_none}
 

@@ -6,6 +6,7 @@ use Rattle.std.proofs.lemmas.Bool.Decides.{nat_tests}
 use Rattle.std.proofs.Math.Nat.{pow-le-pow_right, pow-succ', mul-le-mul_right, mul_assoc}
 use Rattle.jiff_core.specs.Calendar.{IsWithin}
 use Rattle.jiff_core.proofs.SignedLemmas.{signed_arith}
+use Rattle.tz_types.specs.declared.limit.TheConstants.{LAST_WRITTEN_YEAR}
 use Rattle.tz_types.specs.Year.{IsWrittenYear}
 use Rattle.tz_specs.specs.Number.{minus, is_digit, decimal_value, are_digits, number_of, signed_number_of, year_of}
 use Rattle.tz_specs.proofs.AscendingLemmas.{both_hold}
@@ -70,4 +71,4 @@ signed_within most (byte ∷ rest) value limit is h =
 
 -- a year has at most nine digits
 pub year_within : (field : List ℕ) (year : ℤ) → year_of field ≡ Some year → IsWrittenYear year
-year_within field year h = signed_within 9 field year 999_999_999 refl h
+year_within field year h = signed_within 9 field year LAST_WRITTEN_YEAR refl h

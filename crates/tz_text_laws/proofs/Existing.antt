@@ -22,6 +22,7 @@ use Rattle.tz_specs.specs.Whole.{unknown_rule, missing_continuation, missing_tar
 use Rattle.tz_specs.specs.Reads.{version_of, Reads, RefusesWhole, RefusesFiles, Refuses, place_in}
 use Rattle.tz_specs.proofs.ListLemmas.{none_first, none_second}
 use Rattle.tz_specs.proofs.AscendingLemmas.{is_first, is_later}
+use Rattle.tz_text_laws.proofs.Continued.{are_whole, zones_whole}
 use Rattle.tz_text_laws.proofs.GoodContents.{GoodContents, begins, files_good}
 use Rattle.tz_text_laws.proofs.Making.{make_sets, map_map, map_length}
 use Rattle.tz_text_laws.proofs.Sorting.{sorted, sorted_permutes, sorted_ascends, Each, each_sorted, distinct_from, contains_map}
@@ -66,11 +67,11 @@ record MadeZones (sets : List RuleSet) (contents : Contents) : Type 0 where
   few : length zones ≤ MOST_ZONES
   known : Each (knows sets) zones
 
-made_zones : (last : ℕ) (sets : List RuleSet) (contents : Contents) → GoodContents last contents → NoFaults sets contents → MadeZones sets contents
+made_zones : (last : ℕ) (sets : List RuleSet) (contents : Contents) → GoodContents last contents → IsTrue (are_whole contents.zones) → NoFaults sets contents → MadeZones sets contents
 unfolding name_of
-made_zones last sets contents good none =
+made_zones last sets contents good whole none =
     let written = written_zone (set_names sets) in
-    let made = make_zones sets last contents.zones good.zones none.unknown in
+    let made = make_zones sets last contents.zones good.zones whole none.unknown in
     let zones = sorted name_of made.0 in
     let order = sorted_permutes name_of made.0 in
     let same : IsPermutation contents.zones (map written zones) =
@@ -118,7 +119,7 @@ made_links last sets contents zones good none there =
 database : (source : Source) (contents : Contents) (last : ℕ) (sets : List RuleSet) → contents_of source.files ≡ Ok contents → GoodContents last contents → map written_set sets ≡ contents.sets → whole_faults sets contents ≡ [] → (db : Db) × Reads source db
 database source contents last sets given good are none =
     let parts = no_faults sets contents none in
-    let zones = made_zones last sets contents good parts in
+    let zones = made_zones last sets contents good (zones_whole source.files contents given) parts in
     let links = made_links last sets contents zones.zones good parts zones.same in
     let names : map (λ (set : RuleSet). set.name) sets ≡ map (λ (set : WrittenSet). set.name) contents.sets =
     sym (map_map written_set (λ (set : WrittenSet). set.name) sets) ∙ ap (map (λ (set : WrittenSet). set.name)) are in

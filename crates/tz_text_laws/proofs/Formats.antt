@@ -3,6 +3,7 @@ use Rattle.std.proofs.Common.{◌≡◌, ℕ, suc, ◌+◌, ◌≤◌, Bool, tru
 use Rattle.std.specs.List.{list_all, list_any}
 use Rattle.std.proofs.lemmas.Bool.{cases_Bool}
 use Rattle.std.proofs.lemmas.Bool.Decides.{nat_tests}
+use Rattle.tz_types.specs.declared.limit.TheConstants.{LONGEST_FORMAT}
 use Rattle.tz_types.specs.Format.{is_plain_part, is_format_length, is_format}
 use Rattle.tz_types.specs.declared.format.Format.{Format}
 use Rattle.tz_types.specs.declared.format.Format.TheVariants as formats
@@ -69,10 +70,10 @@ none_lacks mark (byte ∷ bytes) h =
     (λ (other : (byte == mark) ≡ false). rw other (none_lacks mark bytes (rw other at h)))
     (cases_Bool (byte == mark))
 
-lengths : (n : ℕ) → 1 ≤ n → n ≤ 24 → IsTrue (is_format_length n)
+lengths : (n : ℕ) → 1 ≤ n → n ≤ LONGEST_FORMAT → IsTrue (is_format_length n)
 lengths n low high = grind (arith, nat_tests)
 
-plain_form : (field : List ℕ) (format : Format) → 1 ≤ length field → length field ≤ 24 → IsTrue (lacks 0x25 field) → (parts : List (List ℕ)) → Cut 0x2f field parts → plain_format_of parts ≡ Some format → IsTrue (is_format format)
+plain_form : (field : List ℕ) (format : Format) → 1 ≤ length field → length field ≤ LONGEST_FORMAT → IsTrue (lacks 0x25 field) → (parts : List (List ℕ)) → Cut 0x2f field parts → plain_format_of parts ≡ Some format → IsTrue (is_format format)
 plain_form field format low high no_percent [] cut h = absurd (cc)
 plain_form field format low high no_percent (text ∷ []) cut h =
     let is : formats.Text text ≡ format = some_same (formats.Text text) format h in
@@ -94,7 +95,7 @@ plain_form field format low high no_percent (standard ∷ daylight ∷ []) cut h
     full_length (x ∷ xs) h = grind (arith, nat_tests)
 plain_form field format low high no_percent (standard ∷ daylight ∷ other ∷ parts) cut h = absurd (cc)
 
-marked_form : (field before rest : List ℕ) (format : Format) → field ≡ before ++ 0x25 ∷ rest → length field ≤ 24 → IsTrue (lacks 0x25 before) → IsTrue (lacks 0x25 rest) → marked_format_of before rest ≡ Some format → IsTrue (is_format format)
+marked_form : (field before rest : List ℕ) (format : Format) → field ≡ before ++ 0x25 ∷ rest → length field ≤ LONGEST_FORMAT → IsTrue (lacks 0x25 before) → IsTrue (lacks 0x25 rest) → marked_format_of before rest ≡ Some format → IsTrue (is_format format)
 marked_form field before [] format is high first second h = absurd (cc)
 marked_form field before (letter ∷ after) format is high first second h =
     ⊎_elim (λ (slash : (list_any (λ byte. byte == 0x2f) before || list_any (λ byte. byte == 0x2f) after) ≡ true).
@@ -125,7 +126,7 @@ marked_form field before (letter ∷ after) format is high first second h =
         (cases_Bool (letter == 0x7a)))
         (cases_Bool (letter == 0x73))
 
-parts_form : (field : List ℕ) (format : Format) → 1 ≤ length field → length field ≤ 24 → (parts : List (List ℕ)) → Cut 0x25 field parts → format_of_parts parts ≡ Some format → IsTrue (is_format format)
+parts_form : (field : List ℕ) (format : Format) → 1 ≤ length field → length field ≤ LONGEST_FORMAT → (parts : List (List ℕ)) → Cut 0x25 field parts → format_of_parts parts ≡ Some format → IsTrue (is_format format)
 parts_form field format low high [] cut h = absurd (cc)
 parts_form field format low high (text ∷ []) cut h =
     plain_form field format low high cut.1 (parts_at 0x2f field) (is_cut 0x2f field) (subst (λ it. plain_format_of (parts_at 0x2f it) ≡ Some format) cut.0 h)
@@ -137,7 +138,7 @@ full [] h = absurd (cc)
 full (byte ∷ field) h = omega arith
 
 -- a format of at most 24 bytes is of its form
-pub format_form : (field : List ℕ) (format : Format) → format_of field ≡ Some format → length field ≤ 24 → IsTrue (is_format format)
+pub format_form : (field : List ℕ) (format : Format) → format_of field ≡ Some format → length field ≤ LONGEST_FORMAT → IsTrue (is_format format)
 unfolding format_of
 format_form field format h high =
     let text = bind_some (only_if (not (is_bad_name field)) field) (λ text. format_of_parts (parts_at 0x25 text)) format h in

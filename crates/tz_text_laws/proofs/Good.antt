@@ -6,7 +6,8 @@ use Rattle.std.proofs.lemmas.Int.{by_lt_z}
 use Rattle.jiff_core.specs.Calendar.{IsWithin}
 use Rattle.jiff_core.proofs.SignedLemmas.{signed_arith}
 use Rattle.tz_types.specs.Year.{IsWrittenYear, IsRuleYear}
-use Rattle.tz_types.specs.Amount.{IsTimeOfDay, IsShift}
+use Rattle.tz_types.specs.Amount.{IsTimeOfDay, IsShift, is_shift}
+use Rattle.tz_types.specs.declared.limit.TheConstants.{LONGEST_SHIFT, LAST_RULE_YEAR, LAST_WRITTEN_YEAR, LONGEST_FORMAT}
 use Rattle.tz_types.specs.Calendar.{has_day, has_day_through}
 use Rattle.tz_types.specs.Format.{is_format}
 use Rattle.tz_types.specs.declared.calendar.Month.{Month}
@@ -43,7 +44,7 @@ pub record GoodUntil (until : WrittenUntil) : Type 0 where
 
 abbrev pub is_good_save : WrittenRules → Bool
 is_good_save NoRules = true
-is_good_save (FixedSave save daylight) = nat_le (unsigned_abs save) 86_400
+is_good_save (FixedSave save daylight) = is_shift save
 is_good_save (RulesNamed name) = true
 
 abbrev pub GoodEnd : Option WrittenUntil → Type 0
@@ -63,12 +64,12 @@ size_within limit value h =
 
 last_year : (from : ℤ) (word : List ℕ) (to : ℤ) → IsWrittenYear from → last_year_named from word ≡ Some to → IsWrittenYear to
 last_year from word to from_in h =
-    let place = bind_some (named_entry word last_year_table) (λ place. slice_index_or (Some (pos 999_999_999) ∷ None ∷ Some from ∷ []) place None) to h in
+    let place = bind_some (named_entry word last_year_table) (λ place. slice_index_or (Some (pos LAST_WRITTEN_YEAR) ∷ None ∷ Some from ∷ []) place None) to h in
     by_place place.0 place.2
   where
-    by_place : (place : ℕ) → slice_index_or (Some (pos 999_999_999) ∷ None ∷ Some from ∷ []) place None ≡ Some to → IsWrittenYear to
+    by_place : (place : ℕ) → slice_index_or (Some (pos LAST_WRITTEN_YEAR) ∷ None ∷ Some from ∷ []) place None ≡ Some to → IsWrittenYear to
     by_place zero h =
-        let same = some_same (pos 999_999_999) to h in
+        let same = some_same (pos LAST_WRITTEN_YEAR) to h in
         subst IsWrittenYear same (omega (arith, signed_arith), omega (arith, signed_arith))
     by_place (suc zero) h = absurd (cc)
     by_place (suc (suc zero)) h = subst IsWrittenYear (some_same from to h) from_in
@@ -88,7 +89,7 @@ years_in from_field to_field years h =
     by_year (Some year) is to from from_in h = subst IsWrittenYear (some_same year to h) (year_within to_field year is)
 
 shift_in : (seconds : ℤ) → IsTrue (is_shift seconds) → IsShift seconds
-shift_in seconds h = size_within 86_400 seconds h
+shift_in seconds h = size_within LONGEST_SHIFT seconds h
 
 time_in : (field : List ℕ) (time : ℤ × AtKind) → time_of field ≡ Some time → IsTimeOfDay time.0
 time_in field time h =
@@ -185,9 +186,9 @@ rule_good number fields rule h rises =
 
 year_in : (field : List ℕ) (year : ℤ) → rule_year_of field ≡ Some year → IsRuleYear year
 year_in field year h =
-    let number = bind_some (year_of field) (λ year. only_if (nat_le (unsigned_abs year) 9998) year) year h in
-    let test = only_some (nat_le (unsigned_abs number.0) 9998) number.0 year number.2 in
-    subst IsRuleYear test.1 (size_within 9998 number.0 test.0)
+    let number = bind_some (year_of field) (λ year. only_if (nat_le (unsigned_abs year) LAST_RULE_YEAR) year) year h in
+    let test = only_some (nat_le (unsigned_abs number.0) LAST_RULE_YEAR) number.0 year number.2 in
+    subst IsRuleYear test.1 (size_within LAST_RULE_YEAR number.0 test.0)
 
 ended : ℤ → Month → On → ℤ × AtKind → WrittenUntil
 ended year month on time = record { year = year; moment = record { month = month; on = on; at = time.0; kind = time.1 } }
@@ -233,7 +234,7 @@ lined : ℕ → ℤ → WrittenRules → Format → Option WrittenUntil → Writ
 lined number stdoff rules format until = record { stdoff = stdoff; rules = rules; format = format; until = until; line = number }
 
 -- the line of a zone without causes is in its ranges
-pub line_good : (number : ℕ) (fields : List (List ℕ)) (line : WrittenLine) → line_of number fields ≡ Some line → length (field_at 2 fields) ≤ 24 → GoodLine line × (line.line ≡ number)
+pub line_good : (number : ℕ) (fields : List (List ℕ)) (line : WrittenLine) → line_of number fields ≡ Some line → length (field_at 2 fields) ≤ LONGEST_FORMAT → GoodLine line × (line.line ≡ number)
 unfolding line_of lined
 line_good number fields line h short =
     let stdoff = bind_some (stdoff_of (field_at 0 fields)) (λ stdoff. rules_of (field_at 1 fields) >>= λ rules. format_of (field_at 2 fields) >>= λ format. until_of fields >>= λ until. Some (lined number stdoff rules format until)) line h in

@@ -1,17 +1,16 @@
 -- What the lines of a text give keeps its ranges, orders and counts.
-use Rattle.std.proofs.Common.{◌≡◌, ℕ, zero, suc, ◌+◌, ◌<◌, ◌≤◌, Bool, true, false, not, ◌&&◌, ◌||◌, ◌==◌, nat_le, nat_lt, IsTrue, List, [], ◌∷◌, ◌++◌, length, map, find, drop, Option, Some, None, slice_get, Result, Ok, Err, refl, sym, ap, ◌∙◌, ⊎_elim, arith, subst, length-append}
-use Rattle.std.specs.Option.{is_none}
-use Rattle.std.specs.List.{list_any}
+use Rattle.std.proofs.Common.{◌≡◌, ℕ, zero, suc, ◌+◌, ◌<◌, ◌≤◌, Bool, true, false, not, ◌&&◌, ◌||◌, nat_le, nat_lt, IsTrue, List, [], ◌∷◌, ◌++◌, length, map, find, drop, Option, Some, None, slice_get, Result, Ok, Err, refl, sym, ap, ◌∙◌, ⊎_elim, arith, subst, length-append}
 use Rattle.std.proofs.lemmas.Bool.{cases_Bool}
 use Rattle.std.proofs.lemmas.Bool.Decides.{nat_tests}
 use Rattle.tz_types.specs.Order.{ascends, ascends_after, name_before}
-use Rattle.tz_types.specs.declared.limit.TheConstants.{MOST_RULES, MOST_SETS, MOST_ZONES, MOST_LINKS}
+use Rattle.tz_types.specs.declared.limit.TheConstants.{MOST_RULES, MOST_SETS, MOST_ZONES, MOST_LINKS, LONGEST_FORMAT}
 use Rattle.tz_types.specs.declared.cause.Cause.{Cause}
 use Rattle.tz_types.specs.declared.cause.Cause.TheVariants as causes
 use Rattle.tz_types.specs.declared.fault.LineFault.{LineFault}
-use Rattle.tz_specs.specs.Line.{line_length, lines_of}
+use Rattle.tz_specs.specs.Line.{lines_of}
 use Rattle.tz_specs.specs.Field.{fields_of}
 use Rattle.tz_specs.specs.Causes.{least_cause, unless_cause, fault_at}
+use Rattle.tz_specs.specs.LineCauses.{opening_causes, number_causes}
 use Rattle.tz_specs.specs.Value.{field_at, fall, years_of, is_bad_name, is_long_name, names_set}
 use Rattle.tz_specs.specs.Written.{WrittenRule, WrittenSet, WrittenLine, WrittenZone, WrittenLink, Record, RuleRecord, ZoneRecord, Continuation, LinkRecord}
 use Rattle.tz_specs.specs.Record.{Kind, RuleLine, ZoneLine, LinkLine, ContinuationLine, kind_of_record, has_count, rule_of, rule_causes, line_of, line_causes, link_of, link_causes, record_of}
@@ -418,6 +417,10 @@ peel_front (row ∷ rows) others h =
     let first = peel row (rows ++ others) h in
     rw first.0 (peel_front rows others first.1)
 
+peel_back : (rows others : List (Cause × Bool)) → least_cause (rows ++ others) ≡ None → least_cause others ≡ None
+peel_back [] others h = h
+peel_back (row ∷ rows) others h = peel_back rows others (peel row (rows ++ others) h).1
+
 no_cause : {A : Type 0} (cause : Option Cause) (x y : A) → unless_cause cause x ≡ Ok y → (cause ≡ None) × (x ≡ y)
 no_cause None x y h = let same : x ≡ y = cc in (refl, same)
 no_cause (Some cause) x y h = absurd (cc)
@@ -440,10 +443,10 @@ rule_flags too_many fields h =
     let limit = none_holds (rule_causes too_many fields) h 10 (causes.Limit, is_long_name (field_at 1 fields) || too_many) refl in
     (order, (neither (is_long_name (field_at 1 fields)) too_many limit).1)
 
-line_flags : (badly_named too_many : Bool) (fields : List (List ℕ)) → least_cause (line_causes badly_named too_many fields) ≡ None → (length (field_at 2 fields) ≤ 24) × (too_many ≡ false)
+line_flags : (badly_named too_many : Bool) (fields : List (List ℕ)) → least_cause (line_causes badly_named too_many fields) ≡ None → (length (field_at 2 fields) ≤ LONGEST_FORMAT) × (too_many ≡ false)
 unfolding line_causes
 line_flags badly_named too_many fields h =
-    let short : nat_lt 24 (length (field_at 2 fields)) ≡ false = none_holds (line_causes badly_named too_many fields) h 7 (causes.LongAbbrev, nat_lt 24 (length (field_at 2 fields))) refl in
+    let short : nat_lt LONGEST_FORMAT (length (field_at 2 fields)) ≡ false = none_holds (line_causes badly_named too_many fields) h 7 (causes.LongAbbrev, nat_lt LONGEST_FORMAT (length (field_at 2 fields))) refl in
     let limit = none_holds (line_causes badly_named too_many fields) h 8 (causes.Limit, too_many || (names_set (field_at 1 fields) && is_long_name (field_at 1 fields))) refl in
     (grind (arith, nat_tests, short), (neither too_many (names_set (field_at 1 fields) && is_long_name (field_at 1 fields)) limit).0)
 
@@ -487,11 +490,8 @@ unfolding line_says
 said_good number contents line None h is = later_contents number contents h
 said_good number contents line (Some entry) h is =
     let says = no_cause (least_cause (causes_of_line contents number line)) (record_of_fields contents number (fields_or_none (fields_of line))) (Some entry) is in
-    let rest = field_causes contents (fields_or_none (fields_of line)) ++ (causes.Limit, nat_lt 100_000 number) ∷ [] in
-    let long = peel (causes.LongLine, nat_lt 2_048 (line_length line)) ((causes.Nul, list_any (λ byte. byte == 0) line) ∷ (causes.OpenQuote, is_none (fields_of line)) ∷ rest) says.0 in
-    let nul = peel (causes.Nul, list_any (λ byte. byte == 0) line) ((causes.OpenQuote, is_none (fields_of line)) ∷ rest) long.1 in
-    let quote = peel (causes.OpenQuote, is_none (fields_of line)) rest nul.1 in
-    let fields = peel_front (field_causes contents (fields_or_none (fields_of line))) ((causes.Limit, nat_lt 100_000 number) ∷ []) quote.1 in
+    let of_fields = field_causes contents (fields_or_none (fields_of line)) in
+    let fields = peel_front of_fields (number_causes number) (peel_back (opening_causes line) (of_fields ++ number_causes number) says.0) in
     good_with number contents entry h (fields_good number contents (fields_or_none (fields_of line)) entry h.few_sets fields says.1)
 
 -- the contents after a line that says this

@@ -7,11 +7,11 @@ pub mod Names
 pub mod GoodContents
 pub mod Making
 pub mod Sorting
+pub mod Continued
 pub mod Zones
 pub mod Existing
-pub mod Continued
 pub mod Soundness
-pub mod WithinLimits
+pub mod Versions
 pub mod Reaching
 pub mod SetsOfRecords
 pub mod Standing

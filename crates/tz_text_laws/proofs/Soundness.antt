@@ -5,6 +5,7 @@ use Rattle.std.specs.List.Sorted.{IsPermutation}
 use Rattle.std.proofs.lemmas.Bool.{and_parts, and_from}
 use Rattle.std.proofs.lemmas.List.Elements.{All-nil, All-cons, All-head, All-tail}
 use Rattle.std.proofs.lemmas.List.Sorted.{All-permutation}
+use Rattle.tz_types.specs.declared.limit.TheConstants.{MOST_ZONE_LINES}
 use Rattle.tz_types.specs.declared.link.Link.{Link}
 use Rattle.tz_types.specs.declared.source.Source.{Source}
 use Rattle.tz_types.specs.declared.database.Db.{Db}
@@ -54,7 +55,7 @@ go_on : (zones : List WrittenZone) → IsTrue (are_whole zones) → IsTrue (all_
 go_on [] whole = refl
 go_on (zone ∷ zones) whole =
     let both = and_parts (is_whole zone) (are_whole zones) whole in
-    let here = and_parts (goes_on zone.lines) (nat_le (length zone.lines) 255) both.0 in
+    let here = and_parts (goes_on zone.lines) (nat_le (length zone.lines) MOST_ZONE_LINES) both.0 in
     and_from (goes_on zone.lines) (all_go_on zones) here.0 (go_on zones both.1)
 
 -- the zones of the database, as they are written

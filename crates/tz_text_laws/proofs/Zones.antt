@@ -1,11 +1,12 @@
 -- The zones and links of a database, of what a text without faults gives.
-use Rattle.std.proofs.Common.{◌≡◌, ℕ, zero, suc, ◌<◌, Bool, true, false, ◌&&◌, ◌||◌, IsTrue, List, [], ◌∷◌, length, map, filter_map, flat_map, find, position, nat_lt, Option, Some, None, refl, sym, ap, ◌∙◌, ⊎_elim, arith, subst}
+use Rattle.std.proofs.Common.{◌≡◌, ℕ, zero, suc, ◌<◌, ◌≤◌, nat_le, Bool, true, false, ◌&&◌, ◌||◌, IsTrue, List, [], ◌∷◌, length, map, filter_map, flat_map, find, position, nat_lt, Option, Some, None, refl, sym, ap, ◌∙◌, ⊎_elim, arith, subst}
 use Rattle.std.specs.Option.{is_none}
 use Rattle.std.specs.List.{Contains, list_all, list_any, position_or_len}
 use Rattle.std.proofs.lemmas.Bool.Decides.{nat_tests}
 use Rattle.std.specs.List.Sorted.{IsPermutation}
-use Rattle.std.proofs.lemmas.Bool.{cases_Bool}
+use Rattle.std.proofs.lemmas.Bool.{cases_Bool, and_parts}
 use Rattle.std.proofs.lemmas.List.Sorted.{list_any-IsPermutation}
+use Rattle.tz_types.specs.declared.limit.TheConstants.{MOST_ZONE_LINES}
 use Rattle.tz_types.specs.declared.cause.Cause.{Cause}
 use Rattle.tz_types.specs.declared.cause.Cause.TheVariants as causes
 use Rattle.tz_types.specs.declared.rule_set.RuleSet.{RuleSet}
@@ -19,9 +20,11 @@ use Rattle.tz_specs.specs.Written.{WrittenLine, WrittenZone, WrittenLink, set_na
 use Rattle.tz_specs.specs.Contents.{Contents}
 use Rattle.tz_specs.specs.Whole.{fault_where, following_in, unknown_rule, zone_name, repeated_name, is_zone_name, reached, zone_of_link, missing_target}
 use Rattle.tz_specs.proofs.ListLemmas.{none_first, none_second}
+use Rattle.tz_database.proofs.ZoneTime.{goes_on}
 use Rattle.tz_text_laws.proofs.Choices.{bind_some, only_some, some_same}
 use Rattle.tz_text_laws.proofs.GoodContents.{GoodLines, GoodZone, GoodZones, begins, has_line}
-use Rattle.tz_text_laws.proofs.Making.{make_line}
+use Rattle.tz_text_laws.proofs.Continued.{is_whole, are_whole}
+use Rattle.tz_text_laws.proofs.Making.{make_line, map_length}
 use Rattle.tz_text_laws.proofs.Sorting.{Each, none_each, any_each}
 
 no_fault_where : (holds : Bool) (number : ℕ) (cause : Cause) → fault_where holds number cause ≡ None → holds ≡ false
@@ -50,21 +53,37 @@ record MadeZone (sets : List RuleSet) (zone : WrittenZone) : Type 0 where
   known : IsTrue (list_all (λ line. is_known sets line.rules) made.lines)
   written : written_zone (set_names sets) made ≡ zone
 
-make_zone : (sets : List RuleSet) (number : ℕ) (zone : WrittenZone) → GoodZone number zone → filter_map (unknown_rule sets) zone.lines ≡ [] → MadeZone sets zone
-make_zone sets number zone good none =
+-- a zone that has a line has one at least
+one_at_least : (zone : WrittenZone) → IsTrue (has_line zone) → 1 ≤ length zone.lines
+one_at_least zone h = by_lines zone.lines refl h
+  where
+    by_lines : (lines : List WrittenLine) → zone.lines ≡ lines → IsTrue (has_line zone) → 1 ≤ length zone.lines
+    by_lines [] is h = let bad : false ≡ true = rw is at h in absurd (cc)
+    by_lines (line ∷ lines) is h = rw is (omega arith)
+
+few_at_most : (count : ℕ) → IsTrue (nat_le count MOST_ZONE_LINES) → count ≤ MOST_ZONE_LINES
+few_at_most count h = grind (arith, nat_tests)
+
+make_zone : (sets : List RuleSet) (number : ℕ) (zone : WrittenZone) → GoodZone number zone → IsTrue (is_whole zone) → filter_map (unknown_rule sets) zone.lines ≡ [] → MadeZone sets zone
+make_zone sets number zone good whole none =
     let lines = make_lines sets zone.lines good.lines none in
-    record { made = record { name = zone.name; lines = lines.0 }; known = lines.1; written = λ i. record { name = zone.name; lines = lines.2 i } }
+    let count : length lines.0 ≡ length zone.lines = sym (map_length (written_line (set_names sets)) lines.0) ∙ ap length lines.2 in
+    let some = one_at_least zone good.begun in
+    let few = few_at_most (length zone.lines) (and_parts (goes_on zone.lines) (nat_le (length zone.lines) MOST_ZONE_LINES) whole).1 in
+    let made : Zone = record { name = zone.name; lines = lines.0; some_line = omega (arith, count, some); few_lines = omega (arith, count, few) } in
+    record { made = made; known = lines.1; written = λ i. record { name = zone.name; lines = lines.2 i } }
 
 abbrev pub knows : List RuleSet → Zone → Type 0
 knows sets zone = IsTrue (list_all (λ line. is_known sets line.rules) zone.lines)
 
-pub make_zones : (sets : List RuleSet) (number : ℕ) (zones : List WrittenZone) → GoodZones number zones → flat_map (λ (zone : WrittenZone). filter_map (unknown_rule sets) zone.lines) zones ≡ [] → (made : List Zone) × Each (knows sets) made × (map (written_zone (set_names sets)) made ≡ zones)
-make_zones sets number [] good none = ([], tt, refl)
-make_zones sets number (zone ∷ zones) good none =
+pub make_zones : (sets : List RuleSet) (number : ℕ) (zones : List WrittenZone) → GoodZones number zones → IsTrue (are_whole zones) → flat_map (λ (zone : WrittenZone). filter_map (unknown_rule sets) zone.lines) zones ≡ [] → (made : List Zone) × Each (knows sets) made × (map (written_zone (set_names sets)) made ≡ zones)
+make_zones sets number [] good whole none = ([], tt, refl)
+make_zones sets number (zone ∷ zones) good whole none =
+    let both = and_parts (is_whole zone) (are_whole zones) whole in
     let here = filter_map (unknown_rule sets) zone.lines in
     let there = flat_map (λ (zone : WrittenZone). filter_map (unknown_rule sets) zone.lines) zones in
-    let first = make_zone sets number zone good.0 (none_first here there none) in
-    let later = make_zones sets number zones good.1 (none_second here there none) in
+    let first = make_zone sets number zone good.0 both.0 (none_first here there none) in
+    let later = make_zones sets number zones good.1 both.1 (none_second here there none) in
     (first.made ∷ later.0, (first.known, later.1), λ i. first.written i ∷ later.2 i)
 
 pub all_known : (sets : List RuleSet) (zones : List Zone) → Each (knows sets) zones → IsTrue (list_all (λ zone. list_all (λ line. is_known sets line.rules) zone.lines) zones)

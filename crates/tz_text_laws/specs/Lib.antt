@@ -1,3 +1,3 @@
-pub mod Limits
+pub mod Version
 pub mod LeadsTo
 pub mod Records

@@ -1,10 +1,15 @@
 //! Laws of whole sources: with those of `tz_specs`, each source is read as one database or refused with one fault. There is
-//! no code here.
+//! no code here, and nothing stands on the crate.
+//!
+//! Read aloud, `links_stand_for_zones_that_they_reach` says: take any link of a database that a source is read as; then
+//! the place that it has is that of a zone, and from its target one comes to the name of that zone through links, each the
+//! earliest of its name, however many there are.
 #![tactic(auto)]
 
 ghost use Rattle.std.specs.Prelude.{◌≡◌, ◌⊎◌, ◌↔◌, ℕ, List, filter_map, slice_get, Some, Ok, IsTrue};
-ghost use Rattle.std.specs.List.{list_all, Contains};
+ghost use Rattle.std.specs.List.{Contains};
 ghost use Rattle.tz_types.specs.Text.{IsText};
+ghost use Rattle.tz_types.specs.declared.limit.TheConstants.{LONGEST_VERSION};
 ghost use Rattle.tz_types.specs.declared.fault.Fault.{Fault};
 ghost use Rattle.tz_types.specs.declared.zone.Zone.{Zone};
 ghost use Rattle.tz_types.specs.declared.link.Link.{Link};
@@ -15,7 +20,7 @@ ghost use Rattle.tz_specs.specs.Contents.{Contents, contents_of};
 ghost use Rattle.tz_specs.specs.Whole.{zone_of_link};
 ghost use Rattle.tz_specs.specs.Sound.{is_sound};
 ghost use Rattle.tz_specs.specs.Reads.{Reads, Refuses};
-ghost use Rattle.tz_text_laws.specs.Limits.{IsVersionGiven, has_lines};
+ghost use Rattle.tz_text_laws.specs.Version.{IsVersionGiven};
 ghost use Rattle.tz_text_laws.specs.LeadsTo.{LeadsTo};
 ghost use Rattle.tz_text_laws.specs.Records.{records_of, rule_named, rules_in, link_said};
 
@@ -29,11 +34,9 @@ pub fn read_databases_are_sound()
     ensures { (source : Source) (db : Db) → Reads source db → IsTrue (is_sound db) }
 {}
 
-/// A database that a source is read as has a version of 1 to 64 bytes, where the one that is given has, and each of its zones
-/// has 1 to 255 lines.
-pub fn read_databases_keep_limits()
-    ensures version { (source : Source) (db : Db) → Reads source db → IsVersionGiven source.version → IsText 1 64 db.version }
-    ensures lines { (source : Source) (db : Db) → Reads source db → IsTrue (list_all has_lines db.zones) }
+/// A database that a source is read as has a version of 1 to 64 bytes, where the one that is given has.
+pub fn read_databases_have_a_version()
+    ensures { (source : Source) (db : Db) → Reads source db → IsVersionGiven source.version → IsText 1 LONGEST_VERSION db.version }
 {}
 
 /// The zone to which a link leads is the one that its target reaches through links of any number.

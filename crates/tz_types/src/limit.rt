@@ -27,8 +27,20 @@ pub const LONGEST_LETTERS: usize = 8;
 /// The most bytes of an abbreviation: a format with letters or an offset put in.
 pub const LONGEST_ABBREVIATION: usize = 32;
 
+/// The greatest year that a text may write, with either sign.
+pub const LAST_WRITTEN_YEAR: u32 = 999_999_999;
+
+/// The last year in which a rule may occur or a line may end; the first is as many years before the year 0.
+pub const LAST_RULE_YEAR: u32 = 9_998;
+
+/// The most seconds of a time of day, with either sign: 999 hours, 59 minutes and 60.99.. seconds, rounded.
+pub const LONGEST_TIME: u32 = 3_600_001;
+
 /// The most seconds of a standard offset or a save, with either sign: a day.
 pub const LONGEST_SHIFT: u32 = 86_400;
+
+/// The most seconds that a zone's clock is ahead of universal time, or behind it: a standard offset and a save.
+pub const LONGEST_OFFSET: u32 = 2 * LONGEST_SHIFT;
 
 /// The most rule sets of a source.
 pub const MOST_SETS: usize = 1_024;

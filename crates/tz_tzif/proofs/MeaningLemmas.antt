@@ -10,6 +10,7 @@ use Rattle.std.proofs.lemmas.Nat.{from_be_bytes-to_be_bytes_4, from_be_bytes-to_
 use Rattle.std.proofs.Math.Facts.{Fits-of_z}
 use Rattle.std.specs.List.{list_all}
 use Rattle.jiff_core.specs.Calendar.{IsWithin}
+use Rattle.tz_types.specs.declared.limit.TheConstants.{LONGEST_OFFSET}
 use Rattle.tz_types.specs.Text.{is_printable}
 use Rattle.tz_specs.specs.Expansion.{first_instant, end_of_time}
 use Rattle.tz_specs.proofs.ListLemmas.{In, In-from_get}
@@ -114,7 +115,7 @@ one_meaning file t x y rise is has =
     sym is.2 ∙ ap (λ number. type_at file number) (one_number file t is.0 has.0 rise is.1 has.1) ∙ has.2
 
 -- ---- signed numbers
-pub fits_offset : (z : ℤ) → IsWithin 172_800 z → FitsSigned w32 z
+pub fits_offset : (z : ℤ) → IsWithin LONGEST_OFFSET z → FitsSigned w32 z
 fits_offset (pos n) near = record { sfits = omega (arith, ints) }
 fits_offset (negsuc n) near = record { sfits = omega (arith, ints) }
 

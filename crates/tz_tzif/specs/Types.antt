@@ -5,6 +5,7 @@ use Rattle.std.specs.Ordering.{int_eq}
 use Rattle.std.specs.Bool.{beq}
 use Rattle.std.specs.Str.{bytes_eq}
 use Rattle.jiff_core.specs.Calendar.{IsWithin}
+use Rattle.tz_types.specs.declared.limit.TheConstants.{LONGEST_OFFSET}
 use Rattle.tz_types.specs.declared.range.SysInfo.{SysInfo}
 use Rattle.tz_tzif.specs.declared.types.TheConstants.{MOST_TYPES}
 use Rattle.tz_tzif.specs.declared.local_type.LocalType.{LocalType}
@@ -20,7 +21,7 @@ type_of range =
 
 -- its offset is at most two days, with either sign
 abbrev pub HasNearOffset : LocalType → Type 0
-HasNearOffset local_type = IsWithin 172_800 local_type.offset
+HasNearOffset local_type = IsWithin LONGEST_OFFSET local_type.offset
 
 -- the two are the same type
 abbrev pub same_type : LocalType → LocalType → Bool

@@ -5,6 +5,7 @@ use Rattle.std.proofs.lemmas.Int.{ints}
 use Rattle.std.proofs.lemmas.Bool.{cond-true, cond-false}
 use Rattle.std.proofs.lemmas.Option.{none-some, same_Some}
 use Rattle.jiff_core.specs.Calendar.{IsWithin}
+use Rattle.tz_types.specs.declared.limit.TheConstants.{LONGEST_OFFSET}
 use Rattle.tz_types.specs.declared.range.SysInfo.{SysInfo}
 use Rattle.tz_specs.specs.Expansion.{first_instant, end_of_time, holds_instant, range_at}
 use Rattle.tz_specs.specs.Cover.{Covers}
@@ -25,7 +26,7 @@ found_in t (first ∷ ranges) range found =
     (λ holds. inl (same_Some first range (sym (cond-true (holds_instant t first) (Some first) (range_at ranges t) holds) ∙ found)))
     (λ passed. inr (found_in t ranges range (sym (cond-false (holds_instant t first) (Some first) (range_at ranges t) passed) ∙ found)))
 
-pub found_near : (zone : CompiledZone) (t : ℤ) (range : SysInfo) → range_at (expansion_of zone) t ≡ Some range → IsWithin 172_800 range.offset
+pub found_near : (zone : CompiledZone) (t : ℤ) (range : SysInfo) → range_at (expansion_of zone) t ≡ Some range → IsWithin LONGEST_OFFSET range.offset
 found_near zone t range found = offset_near zone range (found_in t (expansion_of zone) range found)
 
 zone_covers : (zone : CompiledZone) → Covers first_instant end_of_time (expansion_of zone)
@@ -49,6 +50,6 @@ pub begin_apart : (zone : CompiledZone) (t u : ℤ) (range other : SysInfo) → 
 begin_apart zone t u range other found found_too same =
     begin_apart_in first_instant end_of_time (expansion_of zone) range other (zone_covers zone) (found_in t (expansion_of zone) range found) (found_in u (expansion_of zone) other found_too) same
 
-pub found_offset_near : (zone : CompiledZone) (t : ℤ) (found : Option SysInfo) → found ≡ range_at (expansion_of zone) t → IfSome found (λ range. IsWithin 172_800 range.offset)
+pub found_offset_near : (zone : CompiledZone) (t : ℤ) (found : Option SysInfo) → found ≡ range_at (expansion_of zone) t → IfSome found (λ range. IsWithin LONGEST_OFFSET range.offset)
 found_offset_near zone t None is = tt
 found_offset_near zone t (Some range) is = found_near zone t range (sym is)

@@ -2,6 +2,7 @@
 use Rattle.std.specs.Prelude.{ℕ, ◌+◌, ◌*◌, ◌≤◌, if◌then◌else◌, List, [], ◌∷◌, length, ℤ, pos, ◌+ℤ◌, Option, Some, None}
 use Rattle.std.specs.Ordering.{int_eq}
 use Rattle.jiff_core.specs.Calendar.{IsWithin}
+use Rattle.tz_types.specs.declared.limit.TheConstants.{LONGEST_OFFSET}
 use Rattle.tz_types.specs.declared.range.SysInfo.{SysInfo}
 use Rattle.tz_windows.specs.declared.scan.Scan.{Scan}
 use Rattle.tz_windows.specs.declared.scan.Seen.{Seen}
@@ -31,5 +32,5 @@ scan_from seen ranges =
 
 -- the sums are as small as so many ranges make them
 pub record IsSoFar (seen : Seen) : Type 0 where
-  pub offsets : IsWithin (172_800 * seen.scan.inside) seen.scan.offsets
+  pub offsets : IsWithin (LONGEST_OFFSET * seen.scan.inside) seen.scan.offsets
   pub changes : seen.scan.changes ≤ seen.scan.inside

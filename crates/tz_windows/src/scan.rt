@@ -1,6 +1,7 @@
 //! Scans: what many instants, a step apart, tell of a zone in one call.
 ghost use Rattle.std.specs.Prelude.{◌≡◌, ◌+◌, ◌*◌, ◌^◌, ◌<◌, ◌≤◌, List, ◌∷◌, filter_map, ℤ, pos, ◌+ℤ◌, None};
 ghost use Rattle.jiff_core.specs.Calendar.{IsWithin};
+ghost use Rattle.tz_types.specs.declared.limit.TheConstants.{LONGEST_OFFSET};
 ghost use Rattle.tz_types.specs.declared.range.SysInfo.{SysInfo};
 ghost use Rattle.tz_specs.specs.Expansion.{range_at};
 ghost use Rattle.tz_expand.specs.Zone.{expansion_of};
@@ -73,7 +74,7 @@ impl Seen {
     fn and(self, range: &SysInfo) -> Self
         requires so_far { IsSoFar self }
         requires few { self.scan.inside < MOST_LOOKS }
-        requires near { IsWithin 172_800 range.now.offset }
+        requires near { IsWithin LONGEST_OFFSET range.now.offset }
         ensures so_far { IsSoFar result }
         ensures inside { result.scan.inside ≡ self.scan.inside + 1 }
         ensures later { (later : List SysInfo) → scan_from result later ≡ scan_from self (range.now ∷ later) }

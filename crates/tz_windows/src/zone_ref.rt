@@ -1,6 +1,7 @@
 //! Zones lent with the cells of their windows.
 ghost use Rattle.std.specs.Prelude.{◌≡◌, ◌↔◌, IsSome, IfSome};
 ghost use Rattle.jiff_core.specs.Calendar.{IsWithin};
+ghost use Rattle.tz_types.specs.declared.limit.TheConstants.{LONGEST_OFFSET};
 ghost use Rattle.tz_specs.specs.Expansion.{IsInstant, range_at};
 ghost use Rattle.tz_expand.specs.Zone.{expansion_of};
 
@@ -55,7 +56,7 @@ impl<'v> ZoneRef<'v> {
     ) -> Option<SysInfo>
         ensures range { result ≡ range_at (expansion_of self.old) t }
         ensures in_range { IsSome result ↔ IsInstant t }
-        ensures near { IfSome result (λ range. IsWithin 172_800 range.offset) }
+        ensures near { IfSome result (λ range. IsWithin LONGEST_OFFSET range.offset) }
         ensures zone { self.new ≡ self.old }
     {
         info_at(self.zone.get(), t, steps)

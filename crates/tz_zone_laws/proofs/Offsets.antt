@@ -2,12 +2,8 @@
 use Rattle.std.proofs.Common.{rules, ◌≡◌, Some, None, ℕ, ◌<◌, ◌≤◌, ◌==◌, if◌then◌else◌, length, true, List, [], ◌∷◌, ℤ, pos, neg_ℤ, unsigned_abs, Option, option_map}
 use Rattle.std.specs.List.{list_all}
 use Rattle.tz_specs.specs.Number.{is_digit}
-use Rattle.tz_specs.specs.Abbreviation.{two_digits, clock_text, offset_text}
+use Rattle.tz_specs.specs.Abbreviation.{clock_text, offset_text}
 use Rattle.tz_zone_laws.specs.OffsetWritten.{seconds_counted, seconds_written, offset_written}
-
--- the digits of a number below 100 are digits
-two_are_digits : (n : ℕ) → n < 100 → list_all is_digit (two_digits n) ≡ true
-two_are_digits n small = search rules
 
 -- what is written of a size are digits
 all_are_digits : (size : ℕ) → size < 360_000 → list_all is_digit (clock_text size) ≡ true

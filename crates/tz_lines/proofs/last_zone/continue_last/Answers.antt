@@ -1,4 +1,4 @@
-use Rattle.std.proofs.Common.{◌≡◌, ◌+◌, ◌-◌, ◌<◌, length, refl, arith}
+use Rattle.std.proofs.Common.{◌-◌, ◌<◌, length, refl, arith}
 use Rattle.std.proofs.lemmas.Result.{on_ok_weaker, on_err_weaker}
 use Rattle.tz_lines.proofs.LastZone.{names_set, lines_set, added_line, still_some_line, still_few_lines, room_of_last}
 use Rattle.tz_lines.proofs.last_zone.continue_last.Goals as goal

@@ -2,6 +2,7 @@ use Rattle.std.proofs.Common.{rules, arith, FitsSigned, to_z, ℤ, pos, ◌+ℤ�
 use Rattle.std.specs.Int.{w64}
 use Rattle.std.proofs.lemmas.Int.{ints, to_z-of_z}
 use Rattle.jiff_core.proofs.SignedLemmas.{signed_arith}
+use Rattle.tz_types.specs.declared.limit.TheConstants.{LONGEST_OFFSET}
 use Rattle.tz_specs.specs.Expansion.{first_instant}
 use Rattle.tz_local.proofs.InfoLemmas.{walks_on}
 use Rattle.tz_moves.specs.Day.{IsDay, midnight}
@@ -11,8 +12,8 @@ use Rattle.tz_moves.proofs.day.seconds_among.Goals as goal
 midnight_fits : (day : ℤ) → IsDay day → FitsSigned w64 (day *ℤ pos 86_400)
 midnight_fits day inside = fits_small (midnight day) (omega (arith, ints, signed_arith, inside)) (omega (arith, ints, signed_arith, inside))
 
-before_fits : (day : ℤ) → IsDay day → FitsSigned w64 (day *ℤ pos 86_400 -ℤ pos 172_800)
-before_fits day inside = fits_small (midnight day -ℤ pos 172_800) (omega (arith, ints, signed_arith, inside)) (omega (arith, ints, signed_arith, inside))
+before_fits : (day : ℤ) → IsDay day → FitsSigned w64 (day *ℤ pos 86_400 -ℤ pos LONGEST_OFFSET)
+before_fits day inside = fits_small (midnight day -ℤ pos LONGEST_OFFSET) (omega (arith, ints, signed_arith, inside)) (omega (arith, ints, signed_arith, inside))
 
 next_fits : (day : ℤ) → IsDay day → FitsSigned w64 (day +ℤ pos 1)
 next_fits day inside = fits_small (day +ℤ pos 1) (omega (arith, ints, signed_arith, inside)) (omega (arith, ints, signed_arith, inside))
@@ -20,8 +21,8 @@ next_fits day inside = fits_small (day +ℤ pos 1) (omega (arith, ints, signed_a
 midnight_next_fits : (day : ℤ) → IsDay day → FitsSigned w64 ((day +ℤ pos 1) *ℤ pos 86_400)
 midnight_next_fits day inside = fits_small (midnight (day +ℤ pos 1)) (omega (arith, ints, signed_arith, inside)) (omega (arith, ints, signed_arith, inside))
 
-after_fits : (day : ℤ) → IsDay day → FitsSigned w64 ((day +ℤ pos 1) *ℤ pos 86_400 +ℤ pos 172_800)
-after_fits day inside = fits_small (midnight (day +ℤ pos 1) +ℤ pos 172_800) (omega (arith, ints, signed_arith, inside)) (omega (arith, ints, signed_arith, inside))
+after_fits : (day : ℤ) → IsDay day → FitsSigned w64 ((day +ℤ pos 1) *ℤ pos 86_400 +ℤ pos LONGEST_OFFSET)
+after_fits day inside = fits_small (midnight (day +ℤ pos 1) +ℤ pos LONGEST_OFFSET) (omega (arith, ints, signed_arith, inside)) (omega (arith, ints, signed_arith, inside))
 
 pub loop-range-init : goal.loop-range-init
 loop-range-init g c =
@@ -30,7 +31,7 @@ loop-range-init g c =
     let seconds_fits : FitsSigned w64 c.seconds_in-seconds.result = search rules in
     let inside : IsDay day = c.requires in
     let here : FitsSigned w64 (day *ℤ pos 86_400) = midnight_fits day inside in
-    let early : FitsSigned w64 (day *ℤ pos 86_400 -ℤ pos 172_800) = before_fits day inside in
+    let early : FitsSigned w64 (day *ℤ pos 86_400 -ℤ pos LONGEST_OFFSET) = before_fits day inside in
     let found = simp to_z-of_z at c.range_at-range.ensures.range in
     let told = simp to_z-of_z at c.seconds_in-seconds.ensures.value in
     let walk = first_summed c.args.zone.now day c.seconds_in-seconds.result c.range_at-range.result found told in
@@ -61,11 +62,11 @@ loop-range-smaller g c =
     let inside : IsDay day = c.requires in
     let next_in : FitsSigned w64 (day +ℤ pos 1) = next_fits day inside in
     let midnight_in : FitsSigned w64 ((day +ℤ pos 1) *ℤ pos 86_400) = midnight_next_fits day inside in
-    let after_in : FitsSigned w64 ((day +ℤ pos 1) *ℤ pos 86_400 +ℤ pos 172_800) = after_fits day inside in
+    let after_in : FitsSigned w64 ((day +ℤ pos 1) *ℤ pos 86_400 +ℤ pos LONGEST_OFFSET) = after_fits day inside in
     let later : c.loop-range.range.end <ℤ c.range_at-range-in-loop-range.result.end = omega (arith, ints, c.range_at-range-in-loop-range.ensures.holds) in
     let goes_on = simp to_z-of_z at c.loop-range-test.true in
-    let below : c.loop-range.range.end <ℤ (midnight (day +ℤ pos 1) +ℤ pos 172_800) = omega (arith, ints, signed_arith, goes_on) in
-    let smaller = walks_on c.loop-range.range.end c.range_at-range-in-loop-range.result.end (midnight (day +ℤ pos 1) +ℤ pos 172_800) later below in
+    let below : c.loop-range.range.end <ℤ (midnight (day +ℤ pos 1) +ℤ pos LONGEST_OFFSET) = omega (arith, ints, signed_arith, goes_on) in
+    let smaller = walks_on c.loop-range.range.end c.range_at-range-in-loop-range.result.end (midnight (day +ℤ pos 1) +ℤ pos LONGEST_OFFSET) later below in
     simp to_z-of_z smaller
 
 pub loop-range-preserved : goal.loop-range-preserved
@@ -94,10 +95,10 @@ returns-clause-value g c =
     let inside : IsDay day = c.requires in
     let next_in : FitsSigned w64 (day +ℤ pos 1) = next_fits day inside in
     let midnight_in : FitsSigned w64 ((day +ℤ pos 1) *ℤ pos 86_400) = midnight_next_fits day inside in
-    let after_in : FitsSigned w64 ((day +ℤ pos 1) *ℤ pos 86_400 +ℤ pos 172_800) = after_fits day inside in
+    let after_in : FitsSigned w64 ((day +ℤ pos 1) *ℤ pos 86_400 +ℤ pos LONGEST_OFFSET) = after_fits day inside in
     let walk : IsSummed c.args.zone.now day c.loop-range.range.end seconds = simp to_z-of_z at c.loop-range.invariant in
     let stopped = simp to_z-of_z at c.loop-range-test.false in
-    let past : (midnight (day +ℤ pos 1) +ℤ pos 172_800) ≤ℤ c.loop-range.range.end = omega (arith, ints, signed_arith, stopped) in
+    let past : (midnight (day +ℤ pos 1) +ℤ pos LONGEST_OFFSET) ≤ℤ c.loop-range.range.end = omega (arith, ints, signed_arith, stopped) in
     all_summed c.args.zone.now day c.loop-range.range.end seconds walk past
 
 pub returns-clause-bound : goal.returns-clause-bound

@@ -1,6 +1,6 @@
-use Rattle.std.proofs.Common.{◌≡◌, ◌≤◌, false, nat_le, length, map, IsTrue, sym, ap, ◌∙◌}
+use Rattle.std.proofs.Common.{◌≤◌, length, map, IsTrue, sym, ap, ◌∙◌}
 use Rattle.std.proofs.lemmas.Bool.{and_parts}
-use Rattle.tz_types.specs.declared.limit.TheConstants.{MOST_ZONES, MOST_ZONE_LINES}
+use Rattle.tz_types.specs.declared.limit.TheConstants.{MOST_ZONES}
 use Rattle.tz_types.specs.declared.zone_line.ZoneLine.{ZoneLine}
 use Rattle.tz_specs.specs.Written.{WrittenLine, Continuation, written_zone}
 use Rattle.tz_specs.specs.Contents.{with_line, with_record, last_lines, wants_line, waits, exceeds_lines}

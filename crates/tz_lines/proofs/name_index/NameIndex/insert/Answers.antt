@@ -1,4 +1,4 @@
-use Rattle.std.proofs.Common.{◌≡◌, Some, sym}
+use Rattle.std.proofs.Common.{Some}
 use Rattle.tz_lines.proofs.NameIndex.{set_at_bytes}
 use Rattle.tz_lines.proofs.name_index.NameIndex.insert.Goals as goal
 

@@ -1,12 +1,10 @@
-use Rattle.std.proofs.Common.{◌≡◌, ◌≤◌, ◌<◌, length, set, List, ℕ, Some, None, sym, ap, ◌∙◌, subst, arith}
+use Rattle.std.proofs.Common.{◌≡◌, length, set, Some, None, sym, ◌∙◌, subst, arith}
 use Rattle.std.proofs.lemmas.Bool.{le-leb, lt-leb}
 use Rattle.std.proofs.lemmas.Result.{on_ok_weaker}
-use Rattle.std.proofs.lemmas.List.{length-map}
 use Rattle.tz_types.specs.declared.limit.TheConstants.{MOST_SETS}
-use Rattle.tz_types.specs.declared.rule_set.RuleSet.{RuleSet}
 use Rattle.tz_specs.specs.Written.{set_names}
 use Rattle.tz_lines.specs.NameIndex.{name_position}
-use Rattle.tz_lines.specs.AddingOutcome.{MeansLimit}
+use Rattle.tz_lines.specs.Excess.{MeansLimit}
 use Rattle.tz_lines.proofs.RuleSets.{full_known, full_new, added_known, names_kept, added_new, place_before, set_within, as_many_sets}
 use Rattle.tz_lines.proofs.rule_sets.RuleSets.add.Goals as goal
 

@@ -1,4 +1,4 @@
-use Rattle.std.proofs.Common.{◌≡◌, ◌≤◌, length, arith}
+use Rattle.std.proofs.Common.{◌≤◌, length, arith}
 use Rattle.std.proofs.lemmas.List.Sorted.{length_permutation}
 use Rattle.tz_types.specs.declared.limit.TheConstants.{MOST_SETS}
 use Rattle.tz_lines.proofs.RuleSets.{put_in_order}
