@@ -3,7 +3,8 @@
 #   docs/MEANING.md has each public definition of specs/, by its name and its file, and names none that isn't there;
 #   docs/MEANING.md has each law, a public function with an empty body;
 #   docs/FORMATS.md has the number and the name of each cause and the number of each status;
-#   docs/tzlist.1 and README.md have each form of the commands and, the first, each status that docs/FORMATS.md has;
+#   docs/tzlist.1 and README.md have each form of the commands and, the first, each status that docs/FORMATS.md has, and
+#   docs/tzlist.1 is the page that crates/manual holds against the program;
 #   crates.txt and docs/GUIDE.md have the same crates, but for those of tests, programs and measures.
 #
 # usage: docs/check.sh
@@ -81,6 +82,9 @@ compare "$room/codes" "$room/statuses" "no status of docs/FORMATS.md" "no status
 awk '/^\.SH/ { inside = /EXIT STATUS/ } inside && /^\.B [0-9]+$/ { print $2 }' docs/tzlist.1 | sort >"$room/manual"
 compare "$room/codes" "$room/manual" "no status of docs/tzlist.1" "no status of tz_cli"
 
+# The page that the gate reads.
+cmp -s docs/tzlist.1 crates/manual/data/tzlist.1 || { echo "docs/tzlist.1 isn't crates/manual/data/tzlist.1"; gaps=1; }
+
 # Forms of the commands.
 rows_of Words | awk -F ' *[|] *' '$2 ~ /^`/ { gsub(/`/, "", $2); print $2 }' | sort >"$room/forms"
 awk '
@@ -96,7 +100,7 @@ while read -r word rest; do
 done <"$room/forms"
 
 # Crates.
-sed -nE 's/^([a-z_]+)[: ].*/\1/p' crates.txt | grep -vE '_rows$|^bench_|^tzlist|^example_|_laws$|^row_files$' | sort >"$room/crates"
+sed -nE 's/^([a-z_]+)[: ].*/\1/p' crates.txt | grep -vE '_rows$|^bench_|^tzlist|^example_|_laws$|^row_files$|^manual$' | sort >"$room/crates"
 sed -nE 's/^\| `([a-z_]+)` \|.*/\1/p' docs/GUIDE.md | sort -u >"$room/guide"
 compare "$room/crates" "$room/guide" "no crate of docs/GUIDE.md" "no crate of crates.txt"
 

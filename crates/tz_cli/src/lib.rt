@@ -7,7 +7,7 @@
 //! `check TEXT` the counts of what a text has, and `clock LEAPS CONV X` a count of one clock by that of another. TEXT
 //! names up to sixteen files with commas between, and `=VERSION,` before them gives the text's version. A command that
 //! is refused prints why. The words of `batch SCRIPT SLOTS LEAPS TEXT..` are matched here and left to the layer above,
-//! which takes from here how files are read and lines printed.
+//! which takes from here how files are read and lines printed. `form_of` tells which form words have.
 //!
 //! ```rust
 //! let mut words = Vec::new(alloc);
@@ -29,6 +29,7 @@ mod command_line;
 mod days;
 mod dump;
 mod file_contents;
+mod form;
 mod info;
 mod line;
 mod local;
@@ -49,8 +50,9 @@ mod zones;
 
 pub use batch_line::BatchLine;
 pub use file_contents::{read_files, read_leaps, read_one};
+pub use form::{Form, all_forms, form_of};
 pub use printout::{print, print_refusal};
 pub use refusal::Refusal;
-pub use status::{Plain, Status};
+pub use status::{Plain, Status, all_statuses};
 pub use text_word::TextWord;
 pub use top::run_plain;

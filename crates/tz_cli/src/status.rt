@@ -1,6 +1,7 @@
 //! The exit statuses of the program.
-ghost use Rattle.std.specs.Prelude.{◌≡◌};
+ghost use Rattle.std.specs.Prelude.{◌≡◌, Contains};
 ghost use Rattle.tz_cli.specs.Outcome.{exit_code};
+ghost use Rattle.tz_cli.specs.declared.status.Status.{Status as DeclaredStatus};
 
 /// How a command ended.
 #[derive(Clone, Copy, Debug, PartialEq, Eq, Hash)]
@@ -48,4 +49,25 @@ impl Status {
             Status::Designations => 15,
         }
     }
+}
+
+/// Every status.
+pub fn all_statuses() -> [Status; 13]
+    ensures { (status : DeclaredStatus) → Contains result status }
+{
+    [
+        Status::Ok,
+        Status::Usage,
+        Status::Text,
+        Status::Script,
+        Status::Read,
+        Status::Write,
+        Status::Memory,
+        Status::NoZone,
+        Status::Range,
+        Status::Local,
+        Status::TooLarge,
+        Status::Types,
+        Status::Designations,
+    ]
 }
