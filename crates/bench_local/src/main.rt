@@ -126,12 +126,7 @@ fn begin_told(zone: &CompiledZone, l: i64) -> i64 {
 }
 
 /// How many ranges the ten years from an instant on meet, where nobody asks for the count of steps.
-fn ranges_uncounted<L: Ledger>(
-    alloc: Global,
-    zone: &CompiledZone,
-    from: i64,
-    blank: Blank,
-) -> i64
+fn ranges_uncounted<L: Ledger>(alloc: Global, zone: &CompiledZone, from: i64, blank: Blank) -> i64
     requires name { blank.name ≡ L.name }
     requires parts { blank.parts ≡ L.parts }
     requires counts { 0 < blank.parts }
