@@ -1,12 +1,14 @@
 //! Asks for local times and instants of a zone, as often as asked: what `bench/local.sh` takes the time of.
 //!
 //! The first word names a zone text, whose first rule set the zone follows, five hours west. The second says what is done
-//! with each number: `sys` turns it, as a local time, into the earliest instant, `local` tells which ranges show it, and
-//! `info` asks for the range that holds it, as an instant. The third is how often. Each takes the same numbers, the seconds
+//! with each number: `sys` turns it, as a local time, into the earliest instant, `local` tells which ranges show it, `info`
+//! asks for the range that holds it, as an instant, and `stretch` for all ranges of the ten years from it on. The third is
+//! how often. Each takes the same numbers, the seconds
 //! from 1970 to 2037 in no order. The line that is printed is a sum, so that no work can be left out.
 #![tactic(auto)]
 
-ghost use Rattle.std.specs.Prelude.{◌≡◌, ◌<◌, ◌≤◌, length, IsTrue, IfSome};
+ghost use Rattle.std.specs.Prelude.{◌≡◌, ◌<◌, ◌≤◌, length, pos, IsTrue, IfSome};
+ghost use Rattle.jiff_core.specs.Calendar.{IsBetween};
 ghost use Rattle.tz_types.specs.Format.{is_format};
 ghost use Rattle.tz_specs.specs.Expansion.{first_instant, end_of_time};
 
@@ -15,7 +17,7 @@ use std::marker::Brand;
 use std::rt::{Env, Files};
 use std::sync::ledger::{Blank, Ledger};
 use std::{env, fs, io};
-use tz_expand::{CompiledLine, CompiledRules, CompiledZone, info_at};
+use tz_expand::{CompiledLine, CompiledRules, CompiledZone, expand_between, info_at};
 use tz_lines::read_zones;
 use tz_local::{local_info, to_sys};
 use tz_rules::letters_before;
@@ -27,12 +29,16 @@ use tz_types::{
 /// The seconds from 1970 to 2037.
 const SECONDS: u32 = 2_145_916_800;
 
+/// As long as ten years, about.
+const TEN_YEARS: i64 = 315_532_800;
+
 /// What is done with each number.
 #[derive(Clone, Copy)]
 enum Work {
     Sys,
     Local,
     Info,
+    Stretch,
 }
 
 /// Numbers in no order, the same in each run.
@@ -43,7 +49,9 @@ struct Seconds {
 
 impl Seconds {
     /// A second from 1970 to 2037.
-    fn next(&mut self) -> i64 {
+    fn next(&mut self) -> i64
+        ensures { IsBetween (pos 0) (pos 2_145_916_799) result }
+    {
         self.state = self
             .state
             .wrapping_mul(6_364_136_223_846_793_005)
@@ -117,21 +125,45 @@ fn begin_told(zone: &CompiledZone, l: i64) -> i64 {
     }
 }
 
+/// How many ranges the ten years from an instant on meet, where nobody asks for the count of steps.
+fn ranges_uncounted<L: Ledger>(alloc: Global, zone: &CompiledZone, from: i64, blank: Blank) -> i64
+    requires name { blank.name ≡ L.name }
+    requires parts { blank.parts ≡ L.parts }
+    requires counts { 0 < blank.parts }
+    requires second { IsBetween (pos 0) (pos 2_145_916_799) from }
+{
+    let mut steps = Steps::<L>::new(blank);
+    match expand_between(alloc, zone, from, from + TEN_YEARS, &mut steps) {
+        Ok(ranges) => ranges.len() as i64,
+        Err(_) => 0,
+    }
+}
+
+/// How many ranges the ten years from an instant on meet.
+fn ranges_met(alloc: Global, zone: &CompiledZone, from: i64) -> i64
+    requires { IsBetween (pos 0) (pos 2_145_916_799) from }
+{
+    ranges_uncounted::<Brand>(alloc, zone, from, Blank::new(1))
+}
+
 /// What the work gives for a number.
-fn done(work: Work, zone: &CompiledZone, second: i64) -> i64 {
+fn done(alloc: Global, work: Work, zone: &CompiledZone, second: i64) -> i64
+    requires { IsBetween (pos 0) (pos 2_145_916_799) second }
+{
     match work {
         Work::Sys => to_sys(zone, second, Some(Choose::Earliest)).unwrap_or(0),
         Work::Local => begin_told(zone, second),
         Work::Info => begin_uncounted::<Brand>(zone, second, Blank::new(1)),
+        Work::Stretch => ranges_met(alloc, zone, second),
     }
 }
 
 /// The sum of what the work gives for so many numbers.
-fn sum_of(work: Work, zone: &CompiledZone, count: u32) -> i64 {
+fn sum_of(alloc: Global, work: Work, zone: &CompiledZone, count: u32) -> i64 {
     let mut seconds = Seconds { state: 1 };
     let mut sum: i64 = 0;
     for _ in 0..count {
-        sum = sum.wrapping_add(done(work, zone, seconds.next()));
+        sum = sum.wrapping_add(done(alloc, work, zone, seconds.next()));
     }
     sum
 }
@@ -150,6 +182,7 @@ fn words(rt: &(impl Env + AllocGlobal)) -> io::Result<(String, Work, u32)> {
         "sys" => Work::Sys,
         "local" => Work::Local,
         "info" => Work::Info,
+        "stretch" => Work::Stretch,
         _ => return Err(refused()),
     };
     match count.parse::<u32>() {
@@ -174,6 +207,6 @@ fn main(rt: HostRuntime) -> io::Result<()> {
         return Err(refused());
     };
     let zone = new_york(rt.alloc(), set)?;
-    let sum = sum_of(work, &zone, count);
+    let sum = sum_of(rt.alloc(), work, &zone, count);
     println!(rt; "{sum}")
 }
