@@ -1,8 +1,10 @@
 //! The list of versions that threads share.
 #![tactic(auto)]
 
+mod copies;
 mod payload;
 mod shelf;
 
+pub use copies::Copies;
 pub use payload::Payload;
 pub use shelf::{SHELF_COPIES, Shelf};
