@@ -1,8 +1,9 @@
 -- The copies of one version at a place.
-use Rattle.std.specs.Prelude.{◌≡◌, ℕ, Option, Some, None, List, [], ◌∷◌}
+use Rattle.std.specs.Prelude.{◌≡◌, ℕ, Option, Some, None, List, [], ◌∷◌, replicate}
 use Rattle.std.specs.Arc.{arc_value}
 use Rattle.std.specs.declared.sync.Arc.{Arc}
 use Rattle.std.specs.declared.alloc.Global.{Global}
+use Rattle.pin_table.specs.declared.shelf.TheConstants.{SHELF_COPIES}
 
 module _ {P : Type 0} where
   -- the versions that these fields hold copies of, in the order of the fields
@@ -16,6 +17,10 @@ module _ {P : Type 0} where
   AreInOrder [] = Unit {0}
   AreInOrder (None ∷ fields) = copies_in fields ≡ []
   AreInOrder (Some copy ∷ fields) = AreInOrder fields
+
+  -- as many copies of this version as a reader may have handles
+  abbrev pub full_shelf : P → List P
+  full_shelf version = replicate SHELF_COPIES version
 
   module _ {H : Type 0} (home : P → H) (source : P → ℕ) where
     -- each version is of this home and this source

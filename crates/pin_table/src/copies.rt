@@ -3,6 +3,7 @@
 //! A push takes its memory here, before it takes the turn.
 ghost use Rattle.std.specs.Prelude.{◌≡◌, replicate, IfOk};
 ghost use Rattle.std.specs.Arc.{arc_value};
+ghost use Rattle.pin_table.specs.Shelf.{full_shelf};
 
 use crate::payload::Payload;
 use crate::shelf::Shelf;
@@ -23,12 +24,13 @@ impl<P: Payload> Model for Copies<P> {
     ghost use Rattle.std.specs.Prelude.{◌≡◌, length, replicate};
     ghost use Rattle.std.specs.Arc.{arc_value};
     ghost use Rattle.pin_table.specs.Copies.{Supply};
+    ghost use Rattle.pin_table.specs.Shelf.{full_shelf};
 
     ghost Value = { Supply P };
 
     ghost view = { λ c. record { version = arc_value c.version; readers = length c.shelves.items } };
 
-    ghost invariant = { λ c. c.shelves.items ≡ replicate (length c.shelves.items) (replicate 8 (arc_value c.version)) };
+    ghost invariant = { λ c. c.shelves.items ≡ replicate (length c.shelves.items) (full_shelf (arc_value c.version)) };
 }
 
 impl<P: Payload> Copies<P> {
@@ -52,7 +54,7 @@ impl<P: Payload> Copies<P> {
 
     /// Returns the full shelves, one for each reader number.
     pub(crate) fn into_shelves(self) -> Vec<Shelf<P>>
-        ensures { result.items ≡ replicate self.readers (replicate 8 self.version) }
+        ensures { result.items ≡ replicate self.readers (full_shelf self.version) }
     {
         let Copies {
             version: _,

@@ -1,9 +1,10 @@
 //! The copies of one version that stand at one place.
 //!
 //! A handle takes a copy out of its reader's place at its slot, and its release puts one back, so neither takes memory.
-ghost use Rattle.std.specs.Prelude.{◌≡◌, ◌<◌, ◌∷◌, length, replicate, IfOk};
+ghost use Rattle.std.specs.Prelude.{◌≡◌, ◌<◌, ◌∷◌, length, IfOk};
 ghost use Rattle.std.specs.Arc.{arc_value};
-ghost use Rattle.pin_table.specs.Shelf.{AreOf};
+ghost use Rattle.pin_table.specs.Shelf.{AreOf, full_shelf};
+ghost use Rattle.pin_table.specs.declared.shelf.TheConstants.{SHELF_COPIES};
 
 use crate::payload::Payload;
 use std::marker::Model;
@@ -42,7 +43,7 @@ impl<P: Payload> Model for Shelf<P> {
 impl<P: Payload> Shelf<P> {
     /// Returns a shelf with eight copies of this version.
     pub fn full(version: &Arc<P>) -> Result<Self, NoMemory>
-        ensures { IfOk result (λ shelf. shelf ≡ replicate 8 (arc_value version.now)) }
+        ensures { IfOk result (λ shelf. shelf ≡ full_shelf (arc_value version.now)) }
     {
         Ok(Shelf {
             first: Some(Arc::try_clone(version)?),
@@ -87,7 +88,7 @@ impl<P: Payload> Shelf<P> {
 
     /// Puts a copy back among the others. It is of their home and source.
     pub fn put_back(self, copy: Arc<P>) -> Self
-        requires room { length self < 8 }
+        requires room { length self < SHELF_COPIES }
         requires alike { AreOf P.home P.source (P.home (arc_value copy)) (P.source (arc_value copy)) self }
         ensures { result ≡ arc_value copy ∷ self }
     {
