@@ -1,2 +1,3 @@
 pub mod Shelf
 pub mod Copies
+pub mod Carried
