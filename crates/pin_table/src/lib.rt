@@ -1,12 +1,16 @@
 //! The list of versions that threads share.
 #![tactic(auto)]
 
+mod cell;
 mod copies;
 mod exchange;
 mod payload;
 mod shelf;
+mod sitting;
 
+pub use cell::Cell;
 pub use copies::Copies;
 pub use exchange::{Carried, MOST_CARRIED};
 pub use payload::Payload;
 pub use shelf::{SHELF_COPIES, Shelf};
+pub use sitting::{Key, Sitting};
