@@ -1,0 +1,7 @@
+use Rattle.std.proofs.Common.{◌≡◌, ◌++◌, take, drop}
+use Rattle.pin_table.specs.Carried.{slots_of}
+use Rattle.pin_table.proofs.exchange.exchange.Given as goal
+
+abbrev pub invariant-loop : goal.invariant-loop
+invariant-loop g l = (l.seat.table_id ≡ l.initial.seat.table_id) × (l.seat.id ≡ l.initial.seat.id)
+    × (l.seat.me ≡ (l.initial.seat.me.0, drop l.counter l.initial.seat.me.1 ++ take l.counter l.initial.seat.me.1)) × (l.carried ≡ slots_of l.seat.me.1)
