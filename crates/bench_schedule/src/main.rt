@@ -7,7 +7,7 @@
 
 ghost use Rattle.std.specs.Prelude.{◌≡◌, ◌<◌, length};
 
-use pin_core::{FEWEST_SLOTS, MOST_WRITES, READER_NUMBERS};
+use pin_book::{FEWEST_SLOTS, MOST_WRITES, READER_NUMBERS};
 use pin_schedule::{Core, Event, Kind, MOST_EVENTS, run_schedule};
 use std::rt::Env;
 use std::{env, io};

@@ -9,10 +9,11 @@ use Rattle.std.proofs.lemmas.List.{length-set}
 use Rattle.std.proofs.lemmas.List.Elements.{All-nil, All-cons, All-head, All-tail}
 use Rattle.pin_core.specs.declared.entry.Entry.{Entry}
 use Rattle.pin_core.specs.declared.entry.SlotWord.{SlotWord}
-use Rattle.pin_core.specs.declared.write.Write.{Write}
+use Rattle.pin_book.specs.declared.write.Write.{Write}
 use Rattle.pin_core.specs.declared.view.View.{View}
 use Rattle.pin_core.specs.declared.view.Role.TheVariants as roles
-use Rattle.pin_core.specs.Core.{CoreState, front_number, is_taken, number_at, count_at, total, one_if, pins_at, claims, has_claimed, has_turn, allowance_of}
+use Rattle.pin_book.specs.Replay.{front_number, is_taken}
+use Rattle.pin_core.specs.Core.{CoreState, number_at, count_at, total, one_if, pins_at, claims, has_claimed, has_turn, allowance_of}
 use Rattle.pin_core.specs.Lawful.{Lawful, WasFront, WasFrontOnce, KeepsHandles}
 use Rattle.pin_core.specs.Step.{HasReader, MayClaim, claiming, claim_slot, with_number, found_pinned, miss_slot, claim}
 use Rattle.pin_core.proofs.Sums.{total_kept, total-set, total_none, total_some}

@@ -8,10 +8,10 @@ use Rattle.std.proofs.lemmas.Bool.{both_ways, cases_Bool, cond-true, cond-false,
 use Rattle.std.proofs.lemmas.List.{append-nil, length-append}
 use Rattle.std.proofs.lemmas.List.Elements.{All-nil, All-head, All-tail, All-weaker, All-append, filter-append}
 use Rattle.pin_core.specs.declared.entry.Entry.{Entry}
-use Rattle.pin_core.specs.declared.write.Write.{Write}
+use Rattle.pin_book.specs.declared.write.Write.{Write}
 use Rattle.pin_core.specs.declared.view.View.{View}
 use Rattle.pin_core.specs.declared.view.Role.TheVariants as roles
-use Rattle.pin_core.specs.Sequence.{writes_by}
+use Rattle.pin_book.specs.Sequence.{writes_by}
 use Rattle.pin_core.specs.Core.{CoreState, total, one_if, has_number, number_count, is_main, mains, pins_at, claims, has_claimed, has_turn, allowance_of, spent, EachSeat}
 use Rattle.pin_core.specs.Lawful.{Lawful, WasFront}
 use Rattle.pin_core.specs.Step.{MayJoin, taken_in, join}

@@ -1,11 +1,4 @@
-pub mod ListLemmas
-pub mod ReplayLemmas
-pub mod SequenceLemmas
-pub mod BehindLemmas
-pub mod BookLemmas
-pub mod KeptLemmas
 pub mod Sums
-pub mod Journals
 pub mod Seats
 pub mod Words
 pub mod Loads
@@ -19,7 +12,6 @@ pub mod Opening
 pub mod Runs
 pub mod Readers
 pub mod Packing
-pub mod LawLemmas
 pub mod Places
 pub mod Seen
 pub mod Floors

@@ -8,15 +8,15 @@ use Rattle.std.proofs.lemmas.List.{length-set, length-replicate}
 use Rattle.std.proofs.lemmas.List.Elements.{All-nil, All-cons}
 use Rattle.std.proofs.lemmas.List.FromFn.{length-range_with_len, get_or-range_with_len}
 use Rattle.pin_core.specs.declared.entry.SlotWord.{SlotWord}
-use Rattle.pin_core.specs.declared.write.Write.{Write}
+use Rattle.pin_book.specs.declared.write.Write.{Write}
 use Rattle.pin_core.specs.declared.view.View.{View}
 use Rattle.pin_core.specs.declared.view.Role.TheVariants as roles
-use Rattle.pin_core.specs.Replay.{opening}
-use Rattle.pin_core.specs.Core.{kept_number, number_at, count_at, one_if, times, total, has_number, number_count, is_main, has_turn, pins_at, allowance_of, spent, EachSeat}
+use Rattle.pin_book.specs.Replay.{opening, kept_number}
+use Rattle.pin_core.specs.Core.{number_at, count_at, one_if, times, total, has_number, number_count, is_main, has_turn, pins_at, allowance_of, spent, EachSeat}
 use Rattle.pin_core.specs.Lawful.{Lawful, KeepsEntry, WasFront, WasFrontOnce}
 use Rattle.pin_core.specs.Step.{main_at_first, opening_state, reader_at_first, opening_with_readers}
 use Rattle.pin_core.proofs.Words.{count_here, count_else, number_here, number_else}
-use Rattle.pin_core.proofs.KeptLemmas.{opening_first, opening_others}
+use Rattle.pin_book.proofs.KeptLemmas.{opening_first, opening_others}
 
 -- each of the first numbers stands once among them
 times_range : (number from count : ℕ) → from ≤ number → number < from + count → times number (range_with_len from count) ≡ 1

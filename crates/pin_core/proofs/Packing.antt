@@ -3,22 +3,22 @@ use Rattle.std.proofs.Common.{◌≡◌, ℕ, zero, suc, ◌+◌, ◌*◌, ◌/�
 use mathlib.Core.Option.{some}
 use lib.ListN.{get_elem?}
 use Rattle.std.proofs.lemmas.List.{length-append}
-use Rattle.pin_core.specs.declared.limits.TheConstants.{READER_NUMBERS}
+use Rattle.pin_book.specs.declared.limits.TheConstants.{READER_NUMBERS}
 use Rattle.pin_core.specs.declared.entry.Entry.{Entry}
 use Rattle.pin_core.specs.declared.view.View.{View}
 use Rattle.pin_core.specs.declared.view.Role.{Role}
 use Rattle.pin_core.specs.declared.view.Role.TheVariants as roles
-use Rattle.pin_core.specs.declared.write.Write.{Write}
-use Rattle.pin_core.specs.declared.write.Change.{Change}
-use Rattle.pin_core.specs.declared.write.Change.TheVariants.{Push, Erase}
-use Rattle.pin_core.specs.Replay.{replays}
-use Rattle.pin_core.specs.Pushes.{pushed_by, pushes}
-use Rattle.pin_core.specs.Core.{CoreState, Front, front_number, number_at, count_at, total, one_if, pins_at, has_claimed, number_count}
+use Rattle.pin_book.specs.declared.write.Write.{Write}
+use Rattle.pin_book.specs.declared.write.Change.{Change}
+use Rattle.pin_book.specs.declared.write.Change.TheVariants.{Push, Erase}
+use Rattle.pin_book.specs.Replay.{replays, front_number}
+use Rattle.pin_book.specs.Pushes.{pushed_by, pushes}
+use Rattle.pin_core.specs.Core.{CoreState, Front, number_at, count_at, total, one_if, pins_at, has_claimed, number_count}
 use Rattle.pin_core.specs.Lawful.{Lawful}
 use Rattle.pin_core.specs.Packing.{packed_slot, packed_front, place, book_place}
 use Rattle.pin_core.proofs.Sums.{total_some, one_if-le}
-use Rattle.pin_core.proofs.ReplayLemmas.{replay_orderly}
-use Rattle.pin_core.proofs.Journals.{kept_le, front_slot_inside}
+use Rattle.pin_book.proofs.ReplayLemmas.{replay_orderly}
+use Rattle.pin_book.proofs.Journals.{kept_le, front_slot_inside}
 use Rattle.pin_core.proofs.Readers.{claims_is, claimer_lives}
 
 -- no more versions are pushed than there are writes

@@ -8,13 +8,14 @@ use Rattle.std.proofs.lemmas.List.Edits.{length-remove}
 use Rattle.std.proofs.lemmas.List.Elements.{All-push, All-append, All-take, All-drop}
 use Rattle.pin_core.specs.declared.entry.Entry.{Entry}
 use Rattle.pin_core.specs.declared.entry.SlotWord.{SlotWord}
-use Rattle.pin_core.specs.declared.write.Write.{Write}
+use Rattle.pin_book.specs.declared.write.Write.{Write}
 use Rattle.pin_core.specs.declared.view.View.{View}
-use Rattle.pin_core.specs.Core.{CoreState, front_number, front_slot, number_at, count_at, total, one_if, pins_at, has_claimed, has_turn, allowance_of}
+use Rattle.pin_book.specs.Replay.{front_number, front_slot}
+use Rattle.pin_core.specs.Core.{CoreState, number_at, count_at, total, one_if, pins_at, has_claimed, has_turn, allowance_of}
 use Rattle.pin_core.specs.Lawful.{Lawful, KeepsEntry, WasFront, HasOneTurn, KeepsHandles}
 use Rattle.pin_core.specs.Step.{HasReader, MayPin, MayTake, new_entry, pinned, with_count, add_pin, unpinned, take_pin}
 use Rattle.pin_core.proofs.Sums.{total_kept, total-set, total-append, total-remove, term_le}
-use Rattle.pin_core.proofs.Journals.{front_slot_inside, replays_take}
+use Rattle.pin_book.proofs.Journals.{front_slot_inside, replays_take}
 use Rattle.pin_core.proofs.Words.{numbers_kept, count_here, count_else}
 use Rattle.pin_core.proofs.Seats.{each_set, is_live, owners_kept, spent_kept}
 

@@ -7,14 +7,14 @@ use Rattle.std.specs.List.{Contains}
 use Rattle.std.proofs.lemmas.Bool.{cases_eq, cases_Bool, both_ways, cond-true, cond-false, cond_both, and_parts, and_left, eqb-true}
 use Rattle.std.proofs.lemmas.Option.{slice_get_within, get_or_from_slice_get}
 use Rattle.pin_core.specs.declared.entry.Entry.{Entry}
-use Rattle.pin_core.specs.declared.write.Write.{Write}
-use Rattle.pin_core.specs.declared.write.Change.{Change}
-use Rattle.pin_core.specs.declared.write.Change.TheVariants.{Push, Erase}
+use Rattle.pin_book.specs.declared.write.Write.{Write}
+use Rattle.pin_book.specs.declared.write.Change.{Change}
+use Rattle.pin_book.specs.declared.write.Change.TheVariants.{Push, Erase}
 use Rattle.pin_core.specs.declared.view.View.{View}
 use Rattle.pin_core.specs.declared.view.Role.{Role}
 use Rattle.pin_core.specs.declared.view.Role.TheVariants as roles
-use Rattle.pin_core.specs.Replay.{replays}
-use Rattle.pin_core.specs.Core.{CoreState, front_number, front_slot, kept_number, number_at, count_at, total, one_if, times, pins_at, held_at, claims, has_claimed, has_number}
+use Rattle.pin_book.specs.Replay.{replays, front_number, front_slot, kept_number}
+use Rattle.pin_core.specs.Core.{CoreState, number_at, count_at, total, one_if, times, pins_at, held_at, claims, has_claimed, has_number}
 use Rattle.pin_core.specs.Lawful.{Lawful, away}
 use Rattle.pin_core.specs.Step.{HasReader, MayTake, MayClaim, HasClaimed, claimed_after, MayStore, MaySplit, MayJoin, new_entry, loaded, pinned, unpinned, got_turn, was_refused, claiming, found_pinned, stored, gave_turn, load_front, add_pin, take_pin, take_turn, miss_turn, exchange_turn, claim_slot, miss_slot, store_front, give_turn, left_over, split_off, split, taken_in, join}
 use Rattle.pin_core.proofs.Sums.{at_set, total_kept, total_none, total-append, total-remove, terms_le, total_zero}
@@ -22,7 +22,7 @@ use Rattle.pin_core.proofs.Seats.{is_live, idle}
 use Rattle.pin_core.proofs.Stores.{has_own}
 use Rattle.pin_core.proofs.Splits.{inside_of, total_split}
 use Rattle.pin_core.proofs.Joins.{total_join}
-use Rattle.pin_core.proofs.Journals.{front_kept, kept_rises, kept_le, replays_take}
+use Rattle.pin_book.proofs.Journals.{front_kept, kept_rises, kept_le, replays_take}
 use Rattle.pin_core.proofs.Readers.{claimer_lives, not_claimed, unclaimed}
 
 -- ---- what one seat keeps away ----

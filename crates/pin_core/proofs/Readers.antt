@@ -8,15 +8,16 @@ use Rattle.std.proofs.lemmas.Bool.{cases_eq, cases_lt, cases_order, cases_Bool, 
 use Rattle.std.proofs.lemmas.List.{take_all, take-take}
 use Rattle.std.proofs.lemmas.List.Elements.{All-contains}
 use Rattle.pin_core.specs.declared.entry.Entry.{Entry}
-use Rattle.pin_core.specs.declared.write.Write.{Write}
+use Rattle.pin_book.specs.declared.write.Write.{Write}
 use Rattle.pin_core.specs.declared.view.View.{View}
 use Rattle.pin_core.specs.declared.view.Role.TheVariants as roles
-use Rattle.pin_core.specs.Sequence.{writes_by, counts_from, AreCounted}
-use Rattle.pin_core.specs.Core.{CoreState, front_number, front_slot, kept_number, is_taken, number_at, count_at, total, one_if, pins_at, claims, has_claimed, has_turn, allowance_of}
+use Rattle.pin_book.specs.Sequence.{writes_by, counts_from, AreCounted}
+use Rattle.pin_book.specs.Replay.{front_number, front_slot, kept_number, is_taken}
+use Rattle.pin_core.specs.Core.{CoreState, number_at, count_at, total, one_if, pins_at, claims, has_claimed, has_turn, allowance_of}
 use Rattle.pin_core.specs.Lawful.{Lawful, KeepsEntry, WasFront, entry_number}
 use Rattle.pin_core.specs.Step.{HasReader, claim, claim_slot, miss_slot}
 use Rattle.pin_core.proofs.Sums.{total_some, total_none, term_le}
-use Rattle.pin_core.proofs.Journals.{replays_take, front_slot_inside, front_kept, front_taken, kept_le, kept_rises}
+use Rattle.pin_book.proofs.Journals.{replays_take, front_slot_inside, front_kept, front_taken, kept_le, kept_rises}
 use Rattle.pin_core.proofs.Seats.{is_live, idle}
 use Rattle.pin_core.proofs.Loads.{seen_within}
 use Rattle.pin_core.proofs.Stores.{has_own, own_number, all_pass}

@@ -5,7 +5,7 @@ use lib.ListN.{get_elem?}
 use Rattle.pin_core.specs.declared.view.View.{View}
 use Rattle.pin_core.specs.declared.view.Role.TheVariants as roles
 use Rattle.std.specs.Prelude.{Option, is_some}
-use Rattle.pin_core.specs.declared.write.Write.{Write}
+use Rattle.pin_book.specs.declared.write.Write.{Write}
 use Rattle.pin_core.specs.Core.{one_if, times, mains, has_number, number_count, has_turn, is_main, EachSeat, IsReader}
 use Rattle.pin_core.specs.Lawful.{HasOneTurn, HasOneOwner, KnowsWrites, SpentKnowNothing}
 use Rattle.pin_core.proofs.Sums.{at_set, terms_le, one_if-le, total_kept}

@@ -5,10 +5,11 @@ use mathlib.Core.Option.{some, some-injective, some-ne-none}
 use lib.ListN.{get_elem?}
 use Rattle.std.proofs.lemmas.Bool.{cond_both, cases_eq, ltb-true}
 use Rattle.std.proofs.lemmas.List.{take_all, take_at, take-take}
-use Rattle.pin_core.specs.declared.write.Write.{Write}
+use Rattle.pin_book.specs.declared.write.Write.{Write}
 use Rattle.pin_core.specs.declared.view.View.{View}
 use Rattle.pin_core.specs.declared.view.Role.TheVariants as roles
-use Rattle.pin_core.specs.Core.{CoreState, count_at, number_at, front_slot, spent}
+use Rattle.pin_book.specs.Replay.{front_slot}
+use Rattle.pin_core.specs.Core.{CoreState, count_at, number_at, spent}
 use Rattle.pin_core.specs.Lawful.{Lawful}
 use Rattle.pin_core.specs.Step.{MayJoin, loaded, pinned, unpinned, got_turn, was_refused, take_turn, miss_turn, claiming, found_pinned, claim_slot, miss_slot, stored, gave_turn, left_over, split_off, taken_in}
 use Rattle.pin_core.specs.Run.{Moves, loads, adds, takes_off, exchanges, claims_slot, stores, gives_back, splits, joins}

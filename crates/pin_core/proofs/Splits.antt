@@ -6,11 +6,11 @@ use Rattle.std.specs.List.{All, filter}
 use Rattle.std.proofs.lemmas.Bool.{both_ways, cases_eq, cond-true, cond-false, cond_both, eqb-true, not-true, not_from_true, not_from_false}
 use Rattle.std.proofs.lemmas.List.Elements.{All-nil, All-cons, All-head, All-tail, All-weaker, All-filter, filter_passes}
 use Rattle.pin_core.specs.declared.entry.Entry.{Entry}
-use Rattle.pin_core.specs.declared.write.Write.{Write}
+use Rattle.pin_book.specs.declared.write.Write.{Write}
 use Rattle.pin_core.specs.declared.view.View.{View}
 use Rattle.pin_core.specs.declared.view.Role.{Role}
 use Rattle.pin_core.specs.declared.view.Role.TheVariants as roles
-use Rattle.pin_core.specs.Sequence.{writes_by}
+use Rattle.pin_book.specs.Sequence.{writes_by}
 use Rattle.pin_core.specs.Core.{CoreState, number_at, total, one_if, times, has_number, number_count, is_main, mains, pins_at, has_claimed, has_turn, allowance_of, EachSeat}
 use Rattle.pin_core.specs.Lawful.{Lawful, KeepsEntry, WasFront, WasFrontOnce, KnowsPlaces}
 use Rattle.pin_core.specs.Step.{MaySplit, floor_after, left_over, split_off, split}

@@ -7,18 +7,18 @@ use Rattle.std.proofs.lemmas.Bool.{cases_eq, cond-true}
 use Rattle.std.proofs.lemmas.List.{take_all, length_push, take-append-le}
 use Rattle.std.proofs.lemmas.List.Elements.{All-push, All-weaker, All-head, All-tail, filter-append}
 use Rattle.pin_core.specs.declared.entry.Entry.{Entry}
-use Rattle.pin_core.specs.declared.write.Write.{Write}
-use Rattle.pin_core.specs.declared.write.Change.{Change}
-use Rattle.pin_core.specs.declared.write.Change.TheVariants.{Push, Erase}
+use Rattle.pin_book.specs.declared.write.Write.{Write}
+use Rattle.pin_book.specs.declared.write.Change.{Change}
+use Rattle.pin_book.specs.declared.write.Change.TheVariants.{Push, Erase}
 use Rattle.pin_core.specs.declared.view.View.{View}
-use Rattle.pin_core.specs.Replay.{replays, allowed, state_after}
-use Rattle.pin_core.specs.Sequence.{writes_by}
-use Rattle.pin_core.specs.Core.{CoreState, front_number, front_slot, kept_number, is_taken, number_at, total, one_if, times, has_number, number_count, is_main, pins_at, claims, has_claimed, has_turn, allowance_of}
+use Rattle.pin_book.specs.Replay.{replays, allowed, state_after, front_number, front_slot, kept_number, is_taken}
+use Rattle.pin_book.specs.Sequence.{writes_by}
+use Rattle.pin_core.specs.Core.{CoreState, number_at, total, one_if, times, has_number, number_count, is_main, pins_at, claims, has_claimed, has_turn, allowance_of}
 use Rattle.pin_core.specs.Lawful.{Lawful, WasFront, WasFrontOnce, KnowsWrites, KnowsPlaces, KeepsHandles}
 use Rattle.pin_core.specs.Step.{HasReader, MayStore, HasClaimed, claimed_after, stored, store_front}
 use Rattle.pin_core.proofs.Sums.{total_kept, total-set, terms_le}
-use Rattle.pin_core.proofs.SequenceLemmas.{writes_by_other, counted_push}
-use Rattle.pin_core.proofs.Journals.{replays_push, pushed, erased}
+use Rattle.pin_book.proofs.SequenceLemmas.{writes_by_other, counted_push}
+use Rattle.pin_book.proofs.Journals.{replays_push, pushed, erased}
 use Rattle.pin_core.proofs.Seats.{each_set, is_live, idle, spent_kept}
 use Rattle.pin_core.proofs.Loads.{seen_within}
 

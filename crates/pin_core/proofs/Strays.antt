@@ -8,16 +8,16 @@ use Rattle.std.proofs.lemmas.Bool.{cond_both, both_ways}
 use Rattle.std.proofs.lemmas.List.{take_all, get_or-take, get_or-drop, length-take, length-drop}
 use Rattle.std.proofs.lemmas.List.Elements.{Contains-push_cases, Contains-append_cases}
 use Rattle.pin_core.specs.declared.entry.Entry.{Entry}
-use Rattle.pin_core.specs.declared.write.Write.{Write}
+use Rattle.pin_book.specs.declared.write.Write.{Write}
 use Rattle.pin_core.specs.declared.view.View.{View}
-use Rattle.pin_core.specs.Replay.{replays}
-use Rattle.pin_core.specs.Core.{CoreState, front_number, front_slot, kept_number, number_at, count_at, total, one_if, spent}
+use Rattle.pin_book.specs.Replay.{replays, front_number, front_slot, kept_number}
+use Rattle.pin_core.specs.Core.{CoreState, number_at, count_at, total, one_if, spent}
 use Rattle.pin_core.specs.Lawful.{Lawful}
 use Rattle.pin_core.specs.Step.{HasReader, HasHandle, MayPin, new_entry, loaded, pinned, unpinned, got_turn, was_refused, take_turn, miss_turn, claiming, found_pinned, claim_slot, miss_slot, stored, gave_turn, left_over, split_off, taken_in, opening_state, main_at_first}
 use Rattle.pin_core.specs.Run.{Moves, loads, adds, takes_off, exchanges, claims_slot, stores, gives_back, splits, joins, Reaches, stays, moves_on, KeepsStraysApart}
 use Rattle.pin_core.proofs.Sums.{at_set, at_push}
 use Rattle.pin_core.proofs.Seats.{is_live}
-use Rattle.pin_core.proofs.Journals.{replays_take, front_kept}
+use Rattle.pin_book.proofs.Journals.{replays_take, front_kept}
 use Rattle.pin_core.proofs.Readers.{shown, told}
 use Rattle.pin_core.proofs.Opening.{opens}
 use Rattle.pin_core.proofs.Runs.{moves_keep}

@@ -4,13 +4,13 @@
 use Rattle.std.specs.Prelude.{◌≡◌, ◌≢◌, ℕ, ◌+◌, Bool, true, false, not, ◌&&◌, ◌==◌, Option, Some, None, List, [], ◌∷◌, length, slice_index, slice_index_or, slice_set}
 use mathlib.Core.Option.{some}
 use lib.ListN.{get_elem?}
-use Rattle.pin_core.specs.declared.write.Write.{Write}
+use Rattle.pin_book.specs.declared.write.Write.{Write}
 use Rattle.pin_core.specs.declared.entry.Entry.{Entry}
 use Rattle.pin_core.specs.declared.entry.SlotWord.{SlotWord}
 use Rattle.pin_core.specs.declared.view.View.{View}
 use Rattle.pin_core.specs.declared.view.Role.{Role}
 use Rattle.pin_core.specs.declared.view.Role.TheVariants as roles
-use Rattle.pin_core.specs.Replay.{state_after, front_of, is_slot_listed}
+use Rattle.pin_book.specs.Replay.{state_after, front_of, is_slot_listed}
 
 -- the front word: how many writes there are, and the number and the slot of the front after them
 pub record Front : Type 0 where
@@ -31,24 +31,6 @@ pub record CoreState : Type 0 where
   pub journal : List Write
   pub floor : ℕ
   pub views : List View
-
--- ---- what the journal says ----
-
--- the number of the front after these writes
-unfoldable pub front_number : ℕ → List Write → ℕ
-front_number slots journal = (front_of (state_after slots journal).listed).n
-
--- the slot of the front after these writes
-unfoldable pub front_slot : ℕ → List Write → ℕ
-front_slot slots journal = (front_of (state_after slots journal).listed).slot
-
--- the number that the slot keeps after these writes, or 0
-unfoldable pub kept_number : ℕ → List Write → ℕ → ℕ
-kept_number slots journal slot = slice_index (state_after slots journal).kept slot
-
--- a version in this slot is listed after these writes
-unfoldable pub is_taken : ℕ → List Write → ℕ → Bool
-is_taken slots journal slot = is_slot_listed slot (state_after slots journal).listed
 
 -- ---- what the words say ----
 

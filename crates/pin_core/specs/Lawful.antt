@@ -3,13 +3,13 @@
 use Rattle.std.specs.Prelude.{◌≡◌, ℕ, ◌+◌, ◌*◌, ◌≤◌, ◌<◌, true, false, ◌==◌, if◌then◌else◌, is_some, Option, Some, None, List, [], ◌∷◌, length, take, All}
 use mathlib.Core.Option.{some}
 use lib.ListN.{get_elem?}
-use Rattle.pin_core.specs.declared.write.Write.{Write}
+use Rattle.pin_book.specs.declared.write.Write.{Write}
 use Rattle.pin_core.specs.declared.entry.Entry.{Entry}
 use Rattle.pin_core.specs.declared.view.View.{View}
 use Rattle.pin_core.specs.declared.view.Role.TheVariants as roles
-use Rattle.pin_core.specs.Replay.{replays}
-use Rattle.pin_core.specs.Sequence.{writes_by, AreCounted}
-use Rattle.pin_core.specs.Core.{CoreState, front_number, front_slot, kept_number, is_taken, number_at, count_at, one_if, total, pins_at, held_at, has_number, number_count, has_turn, has_claimed, is_main, allowance_of, spent, EachSeat}
+use Rattle.pin_book.specs.Replay.{replays, front_number, front_slot, kept_number, is_taken}
+use Rattle.pin_book.specs.Sequence.{writes_by, AreCounted}
+use Rattle.pin_core.specs.Core.{CoreState, number_at, count_at, one_if, total, pins_at, held_at, has_number, number_count, has_turn, has_claimed, is_main, allowance_of, spent, EachSeat}
 
 -- ---- (a) the pins ----
 

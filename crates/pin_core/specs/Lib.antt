@@ -1,13 +1,5 @@
-pub mod Replay
-pub mod Pushes
-pub mod Sequence
-pub mod Names
 pub mod Core
 pub mod Lawful
 pub mod Step
 pub mod Packing
-pub mod Journal
-pub mod Standing
-pub mod Book
-pub mod Messages
 pub mod Run

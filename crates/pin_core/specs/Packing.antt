@@ -1,6 +1,6 @@
 -- How the words of a state are packed into numbers of 64 bits, and where places stand. All by constants.
 use Rattle.std.specs.Prelude.{ℕ, ◌+◌, ◌*◌, ◌^◌, Option, Some, None}
-use Rattle.pin_core.specs.declared.limits.TheConstants.{READER_NUMBERS}
+use Rattle.pin_book.specs.declared.limits.TheConstants.{READER_NUMBERS}
 use Rattle.pin_core.specs.declared.entry.SlotWord.{SlotWord}
 use Rattle.pin_core.specs.Core.{Front}
 

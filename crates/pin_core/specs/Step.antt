@@ -4,16 +4,16 @@ use Rattle.std.specs.Prelude.{◌≡◌, ℕ, ◌+◌, ◌-◌, ◌*◌, ◌<◌
 use Rattle.std.specs.List.{remove, range_with_len}
 use mathlib.Core.Option.{some}
 use lib.ListN.{get_elem?}
-use Rattle.pin_core.specs.declared.write.Write.{Write}
-use Rattle.pin_core.specs.declared.write.Change.{Change}
-use Rattle.pin_core.specs.declared.write.Change.TheVariants.{Push, Erase}
+use Rattle.pin_book.specs.declared.write.Write.{Write}
+use Rattle.pin_book.specs.declared.write.Change.{Change}
+use Rattle.pin_book.specs.declared.write.Change.TheVariants.{Push, Erase}
 use Rattle.pin_core.specs.declared.entry.Entry.{Entry}
 use Rattle.pin_core.specs.declared.entry.SlotWord.{SlotWord}
 use Rattle.pin_core.specs.declared.view.View.{View}
 use Rattle.pin_core.specs.declared.view.Role.TheVariants as roles
-use Rattle.pin_core.specs.Replay.{state_after, allowed}
-use Rattle.pin_core.specs.Sequence.{writes_by}
-use Rattle.pin_core.specs.Core.{CoreState, Front, front_number, front_slot, is_taken, number_at, count_at, has_number, held_count, stray_count, IsReader, spent, with_view}
+use Rattle.pin_book.specs.Replay.{state_after, allowed, front_number, front_slot, is_taken}
+use Rattle.pin_book.specs.Sequence.{writes_by}
+use Rattle.pin_core.specs.Core.{CoreState, Front, number_at, count_at, has_number, held_count, stray_count, IsReader, spent, with_view}
 
 -- this seat is that of the reader of this number, and knows v
 pub record HasReader (s : CoreState) (id number : ℕ) (v : View) : Type 0 where

@@ -1,8 +1,9 @@
 //! The words of a lawful state fit 64 bits, and can be read back.
 
 ghost use Rattle.std.specs.Prelude.{◌≡◌, ℕ, ◌+◌, ◌*◌, ◌/◌, ◌%◌, ◌^◌, ◌<◌, ◌≤◌, Option};
-ghost use Rattle.pin_core.specs.declared.limits.TheConstants.{READER_NUMBERS};
-ghost use Rattle.pin_core.specs.Core.{CoreState, front_number, number_at, count_at};
+ghost use Rattle.pin_book.specs.declared.limits.TheConstants.{READER_NUMBERS};
+ghost use Rattle.pin_book.specs.Replay.{front_number};
+ghost use Rattle.pin_core.specs.Core.{CoreState, number_at, count_at};
 ghost use Rattle.pin_core.specs.Lawful.{Lawful};
 ghost use Rattle.pin_core.specs.Packing.{packed_slot, packed_front, place, book_place};
 

@@ -5,9 +5,10 @@ ghost use mathlib.Core.Option.{some};
 ghost use lib.ListN.{get_elem?};
 ghost use Rattle.pin_core.specs.declared.entry.Entry.{Entry};
 ghost use Rattle.pin_core.specs.declared.view.View.{View};
-ghost use Rattle.pin_core.specs.declared.write.Write.{Write};
-ghost use Rattle.pin_core.specs.declared.write.Change.TheVariants as changes;
-ghost use Rattle.pin_core.specs.Core.{CoreState, front_number, front_slot, number_at, count_at, total, held_at};
+ghost use Rattle.pin_book.specs.declared.write.Write.{Write};
+ghost use Rattle.pin_book.specs.declared.write.Change.TheVariants as changes;
+ghost use Rattle.pin_book.specs.Replay.{front_number, front_slot};
+ghost use Rattle.pin_core.specs.Core.{CoreState, number_at, count_at, total, held_at};
 ghost use Rattle.pin_core.specs.Lawful.{Lawful, away};
 ghost use Rattle.pin_core.specs.Step.{HasReader, MayPin, MayTake, MayClaim, MayStore, MayGive, MaySplit, MayJoin, load_front, add_pin, take_pin, exchange_turn, claim_slot, miss_slot, store_front, give_turn, split, join};
 

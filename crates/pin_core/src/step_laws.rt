@@ -5,7 +5,7 @@ ghost use mathlib.Core.Option.{some};
 ghost use lib.ListN.{get_elem?};
 ghost use Rattle.pin_core.specs.declared.entry.Entry.{Entry};
 ghost use Rattle.pin_core.specs.declared.view.View.{View};
-ghost use Rattle.pin_core.specs.declared.write.Write.{Write};
+ghost use Rattle.pin_book.specs.declared.write.Write.{Write};
 ghost use Rattle.pin_core.specs.Core.{CoreState};
 ghost use Rattle.pin_core.specs.Lawful.{Lawful};
 ghost use Rattle.pin_core.specs.Step.{HasReader, MayPin, MayTake, MayTakeTurn, MayClaim, MayStore, MayGive, MaySplit, MayJoin, load_front, add_pin, take_pin, exchange_turn, claim, store_front, give_turn, split, join};

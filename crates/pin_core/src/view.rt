@@ -1,7 +1,7 @@
 //! What each seat knows of the shared list. Proofs alone see it.
 
 use crate::entry::Entry;
-use crate::write::Write;
+use pin_book::Write;
 use std::collections::LinkedList;
 
 /// Whose seat it is: the main's, a reader's that is out, or nobody's, since its reader was joined.

@@ -9,16 +9,16 @@ use Rattle.std.proofs.lemmas.Option.{slice_get-get_or}
 use Rattle.pin_core.specs.declared.entry.Entry.{Entry}
 use Rattle.pin_core.specs.declared.view.View.{View}
 use Rattle.pin_core.specs.declared.view.Role.TheVariants as roles
-use Rattle.pin_core.specs.Replay.{ListState, state_after, is_listed, is_slot_listed, greatest_below, allowed}
-use Rattle.pin_core.specs.Core.{CoreState, front_number, is_taken, number_at, one_if, total, has_number, has_turn}
+use Rattle.pin_book.specs.Replay.{ListState, state_after, is_listed, is_slot_listed, greatest_below, allowed, front_number, is_taken}
+use Rattle.pin_core.specs.Core.{CoreState, number_at, one_if, total, has_number, has_turn}
 use Rattle.pin_core.specs.Lawful.{KnowsTurn}
 use Rattle.pin_core.specs.Step.{HasReader, MayPin, MayTakeTurn, MayClaim, MayStore, MayGive}
 use Rattle.pin_core.proofs.Sums.{total_some, one_if-le, one_if-true, terms_le}
 use Rattle.pin_core.proofs.Seats.{is_live}
 use Rattle.pin_core.proofs.Stores.{has_own}
 use Rattle.pin_core.proofs.Readers.{named}
-use Rattle.pin_core.proofs.ReplayLemmas.{erase_asks, replay_orderly}
-use Rattle.pin_core.proofs.BookLemmas.{asked_push, asked_erase}
+use Rattle.pin_book.proofs.ReplayLemmas.{erase_asks, replay_orderly}
+use Rattle.pin_book.proofs.BookLemmas.{asked_push, asked_erase}
 use Rattle.pin_schedule.specs.declared.core_reader.CoreReader.{CoreReader}
 use Rattle.pin_schedule.specs.declared.event.Event.{Event}
 use Rattle.pin_schedule.specs.declared.event.Kind.{Kind}

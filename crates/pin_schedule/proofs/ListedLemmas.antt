@@ -1,6 +1,6 @@
 -- Versions that are listed, as a course keeps them at hand.
 use Rattle.std.proofs.Common.{◌≡◌, ℕ, List, [], ◌∷◌, map, filter, fold, max, cond, true, false, not, eqb, ltb, ◌||◌, refl, ap, arith}
-use Rattle.pin_core.specs.Replay.{Edition, greatest_number, greatest_below, is_listed, is_slot_listed}
+use Rattle.pin_book.specs.Replay.{Edition, greatest_number, greatest_below, is_listed, is_slot_listed}
 use Rattle.pin_schedule.specs.declared.row.Row.{Row}
 use Rattle.pin_schedule.specs.Progress.{listed_row, greatest_under, is_placed, is_numbered, without}
 

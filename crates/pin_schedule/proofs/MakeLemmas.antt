@@ -6,16 +6,16 @@ use Rattle.std.proofs.lemmas.Bool.{cases_Bool, cases_eq}
 use Rattle.std.proofs.lemmas.List.{length-map}
 use Rattle.std.proofs.lemmas.List.Elements.{Contains-get_or}
 use Rattle.pin_core.specs.declared.view.View.{View}
-use Rattle.pin_core.specs.declared.write.Write.{Write}
-use Rattle.pin_core.specs.declared.write.Change.TheVariants.{Push, Erase}
-use Rattle.pin_core.specs.Replay.{ListState, state_after, after_write, greatest_below, replays}
-use Rattle.pin_core.specs.Core.{CoreState, Front, front_slot, count_at}
+use Rattle.pin_book.specs.declared.write.Write.{Write}
+use Rattle.pin_book.specs.declared.write.Change.TheVariants.{Push, Erase}
+use Rattle.pin_book.specs.Replay.{ListState, state_after, after_write, greatest_below, replays, front_slot}
+use Rattle.pin_core.specs.Core.{CoreState, Front, count_at}
 use Rattle.pin_core.specs.Step.{HasReader, MayStore, with_number}
-use Rattle.pin_core.proofs.LawLemmas.{some_listed}
+use Rattle.pin_book.proofs.LawLemmas.{some_listed}
 use Rattle.pin_core.proofs.Seats.{is_live}
 use Rattle.pin_core.proofs.Loads.{seen_within}
-use Rattle.pin_core.proofs.Journals.{replays_take, replays_push, front_slot_inside}
-use Rattle.pin_core.proofs.ReplayLemmas.{state_after_push}
+use Rattle.pin_book.proofs.Journals.{replays_take, replays_push, front_slot_inside}
+use Rattle.pin_book.proofs.ReplayLemmas.{state_after_push}
 use Rattle.pin_core.proofs.Packing.{count_small, front_small}
 use Rattle.pin_core.proofs.Readers.{counted}
 use Rattle.pin_schedule.specs.declared.core_reader.CoreReader.{CoreReader}

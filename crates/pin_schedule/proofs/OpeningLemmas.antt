@@ -7,9 +7,10 @@ use Rattle.std.proofs.Math.Nat.{mul-le-mul}
 use Rattle.std.proofs.lemmas.List.{length-map}
 use Rattle.std.proofs.lemmas.List.FromFn.{length-range_with_len}
 use Rattle.pin_core.specs.declared.view.View.{View}
-use Rattle.pin_core.specs.Core.{CoreState, front_number, front_slot, spent, IsReader}
+use Rattle.pin_book.specs.Replay.{front_number, front_slot}
+use Rattle.pin_core.specs.Core.{CoreState, spent, IsReader}
 use Rattle.pin_core.specs.Step.{reader_at_first, opening_with_readers}
-use Rattle.pin_core.specs.declared.limits.TheConstants.{MOST_SLOTS, MOST_WRITES, READER_NUMBERS}
+use Rattle.pin_book.specs.declared.limits.TheConstants.{MOST_SLOTS, MOST_WRITES, READER_NUMBERS}
 use Rattle.pin_core.proofs.Opening.{opens_with_readers}
 use Rattle.pin_schedule.specs.declared.core_reader.CoreReader.{CoreReader}
 use Rattle.pin_schedule.specs.declared.row.Row.{Row}

@@ -9,12 +9,12 @@ use Rattle.std.proofs.lemmas.List.Quantifiers.{position-Some}
 use Rattle.std.proofs.lemmas.Option.{slice_get-get_or}
 use Rattle.pin_core.specs.declared.entry.Entry.{Entry}
 use Rattle.pin_core.specs.declared.entry.SlotWord.{SlotWord}
-use Rattle.pin_core.specs.declared.write.Write.{Write}
-use Rattle.pin_core.specs.declared.write.Change.{Change}
-use Rattle.pin_core.specs.declared.write.Change.TheVariants.{Push, Erase}
+use Rattle.pin_book.specs.declared.write.Write.{Write}
+use Rattle.pin_book.specs.declared.write.Change.{Change}
+use Rattle.pin_book.specs.declared.write.Change.TheVariants.{Push, Erase}
 use Rattle.pin_core.specs.declared.view.View.{View}
-use Rattle.pin_core.specs.Replay.{ListState, state_after, after_write, greatest_below}
-use Rattle.pin_core.specs.Core.{CoreState, front_number, front_slot, number_at, count_at}
+use Rattle.pin_book.specs.Replay.{ListState, state_after, after_write, greatest_below, front_number, front_slot}
+use Rattle.pin_core.specs.Core.{CoreState, number_at, count_at}
 use Rattle.pin_core.specs.Lawful.{KnowsTurn}
 use Rattle.pin_core.specs.Step.{HasReader, MayPin, MayTake, MayTakeTurn, MayClaim, MayStore, MayGive, loaded, pinned, unpinned, got_turn, was_refused, claiming, found_pinned, stored, claimed_after, gave_turn, with_number, front_after, load_front, add_pin, take_pin, take_turn, miss_turn, exchange_turn, claim_slot, miss_slot, claim, store_front, give_turn}
 use Rattle.pin_core.proofs.Loads.{loads}
@@ -24,7 +24,7 @@ use Rattle.pin_core.proofs.Turns.{takes, misses, gives_back}
 use Rattle.pin_core.proofs.Claims.{claims_free, claims_pinned}
 use Rattle.pin_core.proofs.Stores.{stores}
 use Rattle.pin_core.proofs.Readers.{named, nobody}
-use Rattle.pin_core.proofs.ReplayLemmas.{state_after_push}
+use Rattle.pin_book.proofs.ReplayLemmas.{state_after_push}
 use Rattle.pin_schedule.specs.declared.core_reader.CoreReader.{CoreReader}
 use Rattle.pin_schedule.specs.declared.row.Row.{Row}
 use Rattle.pin_schedule.specs.Pin.{is_stray_at, is_held_at, is_oldest_at, taken_place}

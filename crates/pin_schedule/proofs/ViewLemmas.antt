@@ -5,10 +5,10 @@ use lib.ListN.{get_elem?}
 use Rattle.std.proofs.lemmas.Bool.{cases_eq}
 use Rattle.std.proofs.lemmas.List.{length-set, length-map, map-set, get_or-map, get_or-set_same, get_or-set_other, set-get_or}
 use Rattle.pin_core.specs.declared.entry.SlotWord.{SlotWord}
-use Rattle.pin_core.specs.declared.write.Write.{Write}
+use Rattle.pin_book.specs.declared.write.Write.{Write}
 use Rattle.pin_core.specs.declared.view.View.{View}
-use Rattle.pin_core.specs.Replay.{Edition, state_after, front_of}
-use Rattle.pin_core.specs.Core.{CoreState, Front, front_number, front_slot, spent, IsReader}
+use Rattle.pin_book.specs.Replay.{Edition, state_after, front_of, front_number, front_slot}
+use Rattle.pin_core.specs.Core.{CoreState, Front, spent, IsReader}
 use Rattle.pin_core.specs.Lawful.{Lawful}
 use Rattle.pin_core.specs.Step.{HasReader}
 use Rattle.pin_schedule.specs.declared.core_reader.CoreReader.{CoreReader}

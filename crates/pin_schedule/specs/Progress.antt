@@ -2,11 +2,11 @@
 use Rattle.std.specs.Prelude.{◌≡◌, ℕ, ◌+◌, ◌*◌, ◌^◌, ◌≤◌, ◌<◌, ◌-◌, ◌==◌, nat_lt, filter, not, ◌&&◌, Bool, true, false, is_some, is_none, Option, Some, None, ◌++◌, List, [], ◌∷◌, length, map, drop, slice_index_or, slice_set}
 use Rattle.std.specs.List.{list_any}
 use Rattle.pin_core.specs.declared.entry.SlotWord.{SlotWord}
-use Rattle.pin_core.specs.declared.write.Write.{Write}
+use Rattle.pin_book.specs.declared.write.Write.{Write}
 use Rattle.pin_core.specs.declared.view.View.{View}
-use Rattle.pin_core.specs.declared.write.Change.{Change}
-use Rattle.pin_core.specs.Replay.{Edition, greatest_number, state_after}
-use Rattle.pin_core.specs.Core.{CoreState, spent, front_number, front_slot}
+use Rattle.pin_book.specs.declared.write.Change.{Change}
+use Rattle.pin_book.specs.Replay.{Edition, greatest_number, state_after, front_number, front_slot}
+use Rattle.pin_core.specs.Core.{CoreState, spent}
 use Rattle.pin_core.specs.Lawful.{Lawful}
 use Rattle.pin_core.specs.Step.{HasReader}
 use Rattle.pin_schedule.specs.declared.core_reader.CoreReader.{CoreReader}
@@ -16,7 +16,7 @@ use Rattle.pin_schedule.specs.declared.event.Kind.{Kind}
 use Rattle.pin_schedule.specs.declared.event.Kind.TheVariants.{LoadFront, AddPin, TakePin, TakeTurn, Claim, StorePush, StoreErase, StoreTurn}
 use Rattle.pin_schedule.specs.declared.row.Row.{Row}
 use Rattle.pin_schedule.specs.declared.limits.TheConstants.{MOST_EVENTS}
-use Rattle.pin_core.specs.declared.limits.TheConstants.{MOST_SLOTS, MOST_WRITES, READER_NUMBERS}
+use Rattle.pin_book.specs.declared.limits.TheConstants.{MOST_SLOTS, MOST_WRITES, READER_NUMBERS}
 use Rattle.pin_schedule.specs.Answer.{seat_of, view_of, reader_of, core_of}
 use Rattle.pin_schedule.specs.Pin.{taken_place, has_place}
 use Rattle.pin_schedule.specs.Schedule.{IsAllowed}

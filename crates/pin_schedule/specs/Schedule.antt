@@ -2,12 +2,12 @@
 -- the core, as that defines it.
 use Rattle.std.specs.Prelude.{◌≡◌, ℕ, ◌+◌, ◌<◌, false, Option, Some, None, List, [], ◌∷◌, length, take, fold, slice_get, slice_index_or}
 use Rattle.pin_core.specs.declared.entry.Entry.{Entry}
-use Rattle.pin_core.specs.declared.write.Write.{Write}
-use Rattle.pin_core.specs.declared.write.Change.{Change}
-use Rattle.pin_core.specs.declared.write.Change.TheVariants.{Push, Erase}
+use Rattle.pin_book.specs.declared.write.Write.{Write}
+use Rattle.pin_book.specs.declared.write.Change.{Change}
+use Rattle.pin_book.specs.declared.write.Change.TheVariants.{Push, Erase}
 use Rattle.pin_core.specs.declared.view.View.{View}
-use Rattle.pin_core.specs.Replay.{state_after, greatest_below}
-use Rattle.pin_core.specs.Core.{CoreState, front_number}
+use Rattle.pin_book.specs.Replay.{state_after, greatest_below, front_number}
+use Rattle.pin_core.specs.Core.{CoreState}
 use Rattle.pin_core.specs.Step.{HasReader, MayPin, MayTake, MayTakeTurn, MayClaim, MayStore, MayGive, load_front, add_pin, take_pin, exchange_turn, claim, store_front, give_turn}
 use Rattle.pin_schedule.specs.declared.event.Event.{Event}
 use Rattle.pin_schedule.specs.declared.event.Kind.{Kind}

@@ -1,7 +1,8 @@
 //! The core of the shared list, as a schedule leaves it.
 
 use crate::core_reader::CoreReader;
-use pin_core::{SlotWord, Write};
+use pin_book::Write;
+use pin_core::SlotWord;
 use tz_types::Items;
 
 /// The writes of all readers, in the order in which they were made.

@@ -2,7 +2,7 @@
 ghost use Rattle.std.specs.Prelude.{◌≡◌, ℕ, ◌<◌, ◌≤◌, ◌⊎◌, length, IfOk, OnOk, IsErrOf};
 ghost use Rattle.pin_core.specs.Lawful.{Lawful};
 ghost use Rattle.pin_core.specs.Step.{opening_with_readers};
-ghost use Rattle.pin_core.specs.declared.limits.TheConstants.{FEWEST_SLOTS, MOST_SLOTS, MOST_WRITES, READER_NUMBERS};
+ghost use Rattle.pin_book.specs.declared.limits.TheConstants.{FEWEST_SLOTS, MOST_SLOTS, MOST_WRITES, READER_NUMBERS};
 ghost use Rattle.pin_schedule.specs.declared.limits.TheConstants.{MOST_EVENTS};
 ghost use Rattle.pin_schedule.specs.declared.schedule_error.ScheduleError.TheVariants as errors;
 ghost use Rattle.pin_schedule.specs.Answer.{core_of};

@@ -1,7 +1,7 @@
 //! Values of schedules.
 
 use crate::{Core, Entry, Event, Kind, MOST_EVENTS, ScheduleError, SlotWord, run_schedule};
-use pin_core::{Change, MOST_SLOTS, MOST_WRITES, READER_NUMBERS, Write};
+use pin_book::{Change, MOST_SLOTS, MOST_WRITES, READER_NUMBERS, Write};
 use std::test::Fail;
 
 /// The steps of the one reader, in order.

@@ -3,7 +3,7 @@
 ghost use Rattle.std.specs.Prelude.{◌<◌};
 
 use crate::{Core, CoreReader, Entry, Event, Kind, ScheduleError, run_schedule};
-use pin_core::{Change, Write};
+use pin_book::{Change, Write};
 use std::alloc::Global;
 use std::process::Abort;
 use std::test::Fail;

@@ -1,8 +1,7 @@
 //! What a slot of the base holds.
 
-use crate::payload::Payload;
 use crate::shelf::Shelf;
-use pin_core::Book;
+use pin_book::{Book, Payload};
 
 /// What a slot of the base holds: the copies at a place, or the book. It is empty while what it held is in hand.
 #[derive(Drop)]

@@ -5,8 +5,8 @@ ghost use Rattle.std.specs.Prelude.{◌≡◌, replicate, IfOk};
 ghost use Rattle.std.specs.Arc.{arc_value};
 ghost use Rattle.pin_table.specs.Shelf.{full_shelf};
 
-use crate::payload::Payload;
 use crate::shelf::Shelf;
+use pin_book::Payload;
 use std::alloc::Global;
 use std::marker::Model;
 use std::sync::Arc;

@@ -4,13 +4,11 @@
 mod cell;
 mod copies;
 mod exchange;
-mod payload;
 mod shelf;
 mod sitting;
 
 pub use cell::Cell;
 pub use copies::Copies;
 pub use exchange::{Carried, MOST_CARRIED};
-pub use payload::Payload;
 pub use shelf::{SHELF_COPIES, Shelf};
 pub use sitting::{Key, Sitting};

@@ -6,7 +6,7 @@ ghost use Rattle.std.specs.Arc.{arc_value};
 ghost use Rattle.pin_table.specs.Shelf.{AreOf, full_shelf};
 ghost use Rattle.pin_table.specs.declared.shelf.TheConstants.{SHELF_COPIES};
 
-use crate::payload::Payload;
+use pin_book::Payload;
 use std::marker::Model;
 use std::sync::Arc;
 use tz_types::NoMemory;

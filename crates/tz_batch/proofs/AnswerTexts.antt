@@ -7,7 +7,7 @@ use Rattle.std.proofs.lemmas.List.{append_cancel_left}
 use mathlib.Core.HLevel.{is_prop→PathP}
 use Rattle.std.proofs.Props.{props}
 use Rattle.tz_script.specs.declared.operation.Pick.{Pick}
-use Rattle.pin_core.specs.declared.limits.TheConstants.{MOST_SLOTS}
+use Rattle.pin_book.specs.declared.limits.TheConstants.{MOST_SLOTS}
 use Rattle.tz_batch.specs.OutcomeText.{version_text, of_several, refusal_text, answer_text}
 use Rattle.tz_batch.specs.Fitting.{FitsWord, FitsAnswer}
 use Rattle.tz_batch.specs.Batch.{Batch, Answered, list_at, row_of}

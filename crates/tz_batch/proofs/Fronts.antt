@@ -6,14 +6,14 @@ use Rattle.std.proofs.lemmas.Option.{same_Some, slice_get-get_or}
 use Rattle.std.proofs.lemmas.List.{take-append-drop}
 use Rattle.std.proofs.lemmas.List.Elements.{Contains-append_left}
 use Rattle.std.proofs.lemmas.Grind.{flat_map-append}
-use Rattle.pin_core.specs.declared.write.Change.{Change}
-use Rattle.pin_core.specs.declared.write.Change.TheVariants.{Push, Erase}
-use Rattle.pin_core.specs.declared.write.Write.{Write}
-use Rattle.pin_core.specs.Replay.{Edition, opening, front_of, greatest_below, allowed, after_write, state_after, replays_from, replays}
-use Rattle.pin_core.specs.Pushes.{pushed_by, pushes}
-use Rattle.pin_core.proofs.ReplayLemmas.{push_asks, erase_asks}
-use Rattle.pin_core.proofs.LawLemmas.{some_listed, listed_told, numbers_in_order}
-use Rattle.pin_core.proofs.Journals.{replays_take}
+use Rattle.pin_book.specs.declared.write.Change.{Change}
+use Rattle.pin_book.specs.declared.write.Change.TheVariants.{Push, Erase}
+use Rattle.pin_book.specs.declared.write.Write.{Write}
+use Rattle.pin_book.specs.Replay.{Edition, opening, front_of, greatest_below, allowed, after_write, state_after, replays_from, replays}
+use Rattle.pin_book.specs.Pushes.{pushed_by, pushes}
+use Rattle.pin_book.proofs.ReplayLemmas.{push_asks, erase_asks}
+use Rattle.pin_book.proofs.LawLemmas.{some_listed, listed_told, numbers_in_order}
+use Rattle.pin_book.proofs.Journals.{replays_take}
 
 abbrev first_edition : Edition
 first_edition = record { n = 1; src = 0; slot = 0 }

@@ -2,7 +2,7 @@
 use Rattle.std.proofs.Common.{◌≡◌, ℕ, List, ◌∷◌, ◌++◌, sym, ◌∙◌, append_assoc}
 use Rattle.std.specs.Prelude.{codes}
 use Rattle.tz_script.specs.declared.operation.Pick.{Pick}
-use Rattle.pin_core.specs.Replay.{Edition}
+use Rattle.pin_book.specs.Replay.{Edition}
 use Rattle.tz_batch.specs.OutcomeText.{version_text, found_text, answer_text}
 use Rattle.tz_batch.specs.Fitting.{FitsAnswer}
 use Rattle.tz_batch.specs.Batch.{Batch, Answered}

@@ -17,7 +17,7 @@ use Rattle.tz_output.specs.Range.{shown, spaced, range_text}
 use Rattle.tz_output.specs.LocalInfo.{local_text}
 use Rattle.tz_output.specs.LeapInfo.{leap_text}
 use Rattle.tz_windows.specs.declared.scan.Scan.{Scan}
-use Rattle.pin_core.specs.declared.listed.Listed.{Listed}
+use Rattle.pin_book.specs.declared.listed.Listed.{Listed}
 use Rattle.tz_batch.specs.OutcomeText.{after_space, after_slash, scan_text, found_text, version_text, of_several, refusal_text, row_text, answer_text}
 use Rattle.tz_batch.specs.Fitting.{FitsWord, FitsCount, is_one_line, FitsRange, FitsLocal, FitsScan, FitsFound, FitsRow, FitsAnswer}
 use Rattle.tz_batch.specs.declared.answer.Answer.{Answer}

@@ -9,8 +9,8 @@ use Rattle.tz_script.specs.declared.operation.Pick.{Pick}
 use Rattle.tz_script.specs.declared.operation.Pick.TheVariants.{Front, Held}
 use Rattle.tz_script.specs.declared.script.Script.{Script}
 use Rattle.tz_version.specs.declared.sources.Sources.{Sources}
-use Rattle.pin_core.specs.Replay.{Edition, front_of, state_after, replays}
-use Rattle.pin_core.specs.declared.write.Write.{Write}
+use Rattle.pin_book.specs.Replay.{Edition, front_of, state_after, replays}
+use Rattle.pin_book.specs.declared.write.Write.{Write}
 use Rattle.tz_batch.specs.OutcomeText.{answer_text, outcome_text}
 use Rattle.tz_batch.specs.Fitting.{FitsAnswer, FitsReply, FitsOutcome, ReplyTold, reply_told}
 use Rattle.tz_batch.specs.Batch.{Batch, Answered, each_answered, answered, row_of}

@@ -9,9 +9,9 @@ use Rattle.tz_script.specs.declared.operation.Pick.TheVariants.{Front, Held}
 use Rattle.tz_expand.specs.declared.compiled_zone.CompiledZone.{CompiledZone}
 use Rattle.tz_version.specs.declared.sources.Sources.{Sources}
 use Rattle.tz_version.specs.Refusal.{RefusesLeapText, RefusesSource}
-use Rattle.pin_core.specs.declared.write.Change.{Change}
-use Rattle.pin_core.specs.declared.write.Change.TheVariants.{Push, Erase}
-use Rattle.pin_core.specs.Replay.{Edition, allowed, is_listed, greatest_below}
+use Rattle.pin_book.specs.declared.write.Change.{Change}
+use Rattle.pin_book.specs.declared.write.Change.TheVariants.{Push, Erase}
+use Rattle.pin_book.specs.Replay.{Edition, allowed, is_listed, greatest_below}
 use Rattle.tz_batch.specs.Batch.{Batch, Answered, list_at, newest_at, name_of_source, row_of, position_before}
 use Rattle.tz_batch.specs.Held.{IsHeldAs, LooksInto}
 use Rattle.tz_batch.specs.Finding.{FindsInfo, FindsLocal, FindsSys, FindsScan, FindsInZone, FindsByClock}

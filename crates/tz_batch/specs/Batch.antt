@@ -5,8 +5,8 @@ use Rattle.tz_types.specs.declared.source.Source.{Source}
 use Rattle.tz_specs.specs.Reads.{version_of}
 use Rattle.tz_script.specs.declared.operation.Operation.{Operation}
 use Rattle.tz_version.specs.declared.sources.Sources.{Sources}
-use Rattle.pin_core.specs.Replay.{Edition, ListState, state_after, front_of}
-use Rattle.pin_core.specs.declared.listed.Listed.{Listed}
+use Rattle.pin_book.specs.Replay.{Edition, ListState, state_after, front_of}
+use Rattle.pin_book.specs.declared.listed.Listed.{Listed}
 use Rattle.tz_batch.specs.declared.answer.Answer.{Answer}
 use Rattle.tz_batch.specs.declared.answer.Answer.TheVariants as answers
 use Rattle.tz_batch.specs.declared.outcome.Outcome.{Outcome}

@@ -7,10 +7,10 @@ use Rattle.tz_types.specs.declared.range.SysInfo.{SysInfo}
 use Rattle.tz_types.specs.declared.range.LocalInfo.{LocalInfo}
 use Rattle.tz_types.specs.declared.range.LocalInfo.TheVariants.{Unique, Nonexistent, Ambiguous}
 use Rattle.tz_windows.specs.declared.scan.Scan.{Scan}
-use Rattle.pin_core.specs.declared.listed.Listed.{Listed}
-use Rattle.pin_core.specs.declared.write.Change.{Change}
-use Rattle.pin_core.specs.declared.write.Change.TheVariants.{Push, Erase}
-use Rattle.pin_core.specs.declared.write.Write.{Write}
+use Rattle.pin_book.specs.declared.listed.Listed.{Listed}
+use Rattle.pin_book.specs.declared.write.Change.{Change}
+use Rattle.pin_book.specs.declared.write.Change.TheVariants.{Push, Erase}
+use Rattle.pin_book.specs.declared.write.Write.{Write}
 use Rattle.tz_batch.specs.OutcomeText.{answer_text}
 use Rattle.tz_batch.specs.declared.answer.Answer.{Answer}
 use Rattle.tz_batch.specs.declared.answer.Answer.TheVariants as answers

@@ -5,7 +5,7 @@ use Rattle.tz_script.specs.declared.holds.OpenHold.{OpenHold}
 use Rattle.tz_script.specs.declared.operation.Operation.{Operation}
 use Rattle.tz_script.specs.declared.operation.Pick.{Pick}
 use Rattle.tz_script.specs.declared.operation.Pick.TheVariants.{Front, Held}
-use Rattle.pin_core.specs.Replay.{Edition}
+use Rattle.pin_book.specs.Replay.{Edition}
 use Rattle.tz_batch.specs.Batch.{Batch, Answered, newest_at}
 
 -- the holds of a round that are open after one more operation; those of other rounds don't count

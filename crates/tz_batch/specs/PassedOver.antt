@@ -2,7 +2,7 @@
 use Rattle.std.specs.Prelude.{◌≡◌, ℕ, ◌≤◌, ◌<◌, ◌==◌, Bool, true, false, ◌⊎◌, List, IsTrue}
 use Rattle.tz_script.specs.declared.holds.OpenHold.{OpenHold}
 use Rattle.tz_script.specs.declared.operation.Operation.{Operation}
-use Rattle.pin_core.specs.Replay.{is_slot_listed}
+use Rattle.pin_book.specs.Replay.{is_slot_listed}
 use Rattle.tz_batch.specs.Batch.{Batch, Answered, list_at, newest_at, start_of}
 use Rattle.tz_batch.specs.Held.{IsOpenHold}
 

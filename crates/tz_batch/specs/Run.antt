@@ -6,12 +6,12 @@ use Rattle.tz_script.specs.declared.script.Script.{Script}
 use Rattle.tz_script.specs.declared.operation.Op.{Op}
 use Rattle.tz_script.specs.declared.operation.Op.TheVariants as ops
 use Rattle.tz_version.specs.declared.sources.Sources.{Sources}
-use Rattle.pin_core.specs.declared.listed.Listed.{Listed}
-use Rattle.pin_core.specs.declared.write.Change.{Change}
-use Rattle.pin_core.specs.declared.write.Change.TheVariants.{Push, Erase}
-use Rattle.pin_core.specs.declared.write.Write.{Write}
-use Rattle.pin_core.specs.Replay.{replays}
-use Rattle.pin_core.specs.Sequence.{AreCounted}
+use Rattle.pin_book.specs.declared.listed.Listed.{Listed}
+use Rattle.pin_book.specs.declared.write.Change.{Change}
+use Rattle.pin_book.specs.declared.write.Change.TheVariants.{Push, Erase}
+use Rattle.pin_book.specs.declared.write.Write.{Write}
+use Rattle.pin_book.specs.Replay.{replays}
+use Rattle.pin_book.specs.Sequence.{AreCounted}
 use Rattle.tz_batch.specs.Batch.{Batch, Answered, answered, list_at, start_of, position_before}
 use Rattle.tz_batch.specs.Answering.{IsRightReply}
 use Rattle.tz_batch.specs.PassedOver.{IsPassedOver, IsFull}

@@ -27,7 +27,7 @@
 //! The text settles the journal, and of each reply the line, the position and the text of the answer; of a run of a
 //! script it settles the whole outcome (`laws`). Which outcomes a script may have is defined in specs/Run.antt, for any
 //! number of lanes and rounds: what the layer above promises, which runs scripts. The crate stands on `tz_script` for
-//! scripts, on `tz_version` for versions, on `pin_core` for the list, and on `tz_output` for spellings.
+//! scripts, on `tz_version` for versions, on `pin_book` for the list, and on `tz_output` for spellings.
 #![tactic(auto)]
 
 mod answer;

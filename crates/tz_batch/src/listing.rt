@@ -1,8 +1,8 @@
 //! The versions that are listed at a position.
 ghost use Rattle.std.specs.Prelude.{◌≤◌, length};
-ghost use Rattle.pin_core.specs.declared.limits.TheConstants.{MOST_SLOTS};
+ghost use Rattle.pin_book.specs.declared.limits.TheConstants.{MOST_SLOTS};
 
-use pin_core::Listed;
+use pin_book::Listed;
 use tz_types::Items;
 
 /// The position, and the versions that are listed there, newest first: at most 64.

@@ -6,7 +6,7 @@ ghost use Rattle.tz_batch.specs.OutcomeText.{count_line, outcome_text};
 use crate::number::put_natural;
 use crate::reply::{Reply, put_replies};
 use crate::write_line::put_writes;
-use pin_core::Write;
+use pin_book::Write;
 use std::alloc::Global;
 use tz_types::{Items, NoMemory};
 

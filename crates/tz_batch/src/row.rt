@@ -4,7 +4,7 @@ ghost use Rattle.std.specs.List.{flat_map};
 ghost use Rattle.tz_batch.specs.OutcomeText.{after_slash, row_text};
 
 use crate::number::{put_after_space, put_natural};
-use pin_core::Listed;
+use pin_book::Listed;
 use tz_types::NoMemory;
 
 /// Puts a slash and a number at the end of a text.

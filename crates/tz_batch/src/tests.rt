@@ -1,6 +1,6 @@
 //! Outcomes, each with its text.
 use crate::{Answer, Found, Listing, Outcome, Reply, outcome_text};
-use pin_core::{Change, Listed, MOST_SLOTS, Write};
+use pin_book::{Change, Listed, MOST_SLOTS, Write};
 use std::alloc::{AllocError, Global};
 use std::process::Abort;
 use std::test::Fail;

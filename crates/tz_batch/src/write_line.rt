@@ -3,7 +3,7 @@ ghost use Rattle.std.specs.Prelude.{◌≡◌, ◌+◌, ◌++◌, OnOk};
 ghost use Rattle.tz_batch.specs.OutcomeText.{after_space, change_text, write_line, write_lines};
 
 use crate::number::{put_after_space, put_natural};
-use pin_core::{Change, Write};
+use pin_book::{Change, Write};
 use tz_types::NoMemory;
 
 /// Puts a push at the end of a text.

@@ -7,7 +7,7 @@ use Rattle.tz_types.specs.Civil.{is_from_to}
 use Rattle.tz_specs.specs.Choice.{only_if}
 use Rattle.tz_specs.specs.Number.{number_of}
 use Rattle.tz_version.specs.declared.sources.TheConstants.{MOST_SOURCES}
-use Rattle.pin_core.specs.declared.limits.TheConstants.{FEWEST_SLOTS, MOST_SLOTS}
+use Rattle.pin_book.specs.declared.limits.TheConstants.{FEWEST_SLOTS, MOST_SLOTS}
 use Rattle.tz_cli.specs.NamedText.{NamedText, named_text_of}
 
 -- the file of a script, how many slots the list has, the word for a leap text, and the texts named, in their order

@@ -1,10 +1,10 @@
 //! The words of `batch`.
 ghost use Rattle.std.specs.Prelude.{◌≡◌, ◌≤◌, IsTrue, IsNone, IfSome};
-ghost use Rattle.pin_core.specs.declared.limits.TheConstants.{FEWEST_SLOTS as fewest, MOST_SLOTS as most};
+ghost use Rattle.pin_book.specs.declared.limits.TheConstants.{FEWEST_SLOTS as fewest, MOST_SLOTS as most};
 ghost use Rattle.tz_cli.specs.BatchCommand.{slot_count_of, name_texts, are_texts};
 
 use crate::text_word::TextWord;
-use pin_core::{FEWEST_SLOTS, MOST_SLOTS};
+use pin_book::{FEWEST_SLOTS, MOST_SLOTS};
 use tz_text::number;
 use tz_version::MOST_SOURCES;
 

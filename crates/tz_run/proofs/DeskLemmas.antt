@@ -8,18 +8,18 @@ use Rattle.tz_types.specs.declared.source.Source.{Source}
 use Rattle.tz_specs.specs.Reads.{version_of}
 use Rattle.tz_version.specs.declared.sources.Sources.{Sources}
 use Rattle.tz_version.specs.Release.{Release, IsVersionOf}
-use Rattle.pin_core.specs.declared.limits.TheConstants.{FEWEST_SLOTS, MOST_SLOTS, MOST_WRITES}
-use Rattle.pin_core.specs.declared.write.Change.TheVariants.{Push, Erase}
-use Rattle.pin_core.specs.declared.write.Write.{Write}
-use Rattle.pin_core.specs.Replay.{Edition, ListState, front_of, is_listed, is_slot_listed, greatest_below, allowed, after_change}
-use Rattle.pin_core.specs.Pushes.{pushes}
-use Rattle.pin_core.specs.declared.listed.Listed.{Listed}
-use Rattle.pin_core.specs.Names.{name_of, with_name, with_names}
-use Rattle.pin_core.specs.Book.{Chronicle, list_of, rows_of, IsBook}
-use Rattle.pin_core.proofs.ListLemmas.{few_listed}
-use Rattle.pin_core.proofs.ReplayLemmas.{Orderly, replay_orderly, state_after_push}
-use Rattle.pin_core.proofs.LawLemmas.{StandsAt, stands_for, some_listed}
-use Rattle.pin_core.proofs.BookLemmas.{asked_push, asked_erase}
+use Rattle.pin_book.specs.declared.limits.TheConstants.{FEWEST_SLOTS, MOST_SLOTS, MOST_WRITES}
+use Rattle.pin_book.specs.declared.write.Change.TheVariants.{Push, Erase}
+use Rattle.pin_book.specs.declared.write.Write.{Write}
+use Rattle.pin_book.specs.Replay.{Edition, ListState, front_of, is_listed, is_slot_listed, greatest_below, allowed, after_change}
+use Rattle.pin_book.specs.Pushes.{pushes}
+use Rattle.pin_book.specs.declared.listed.Listed.{Listed}
+use Rattle.pin_book.specs.Names.{name_of, with_name, with_names}
+use Rattle.pin_book.specs.Book.{Chronicle, list_of, rows_of, IsBook}
+use Rattle.pin_book.proofs.ListLemmas.{few_listed}
+use Rattle.pin_book.proofs.ReplayLemmas.{Orderly, replay_orderly, state_after_push}
+use Rattle.pin_book.proofs.LawLemmas.{StandsAt, stands_for, some_listed}
+use Rattle.pin_book.proofs.BookLemmas.{asked_push, asked_erase}
 use Rattle.tz_batch.specs.Batch.{name_of_source, row_of}
 use Rattle.tz_run.specs.declared.hold.Hold.{Hold}
 use Rattle.tz_run.specs.Session.{edition_held, is_slot_held}

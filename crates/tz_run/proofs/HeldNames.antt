@@ -16,8 +16,8 @@ use Rattle.tz_script.specs.declared.operation.Operation.{Operation}
 use Rattle.tz_script.proofs.HoldRules.{pushed_in, open_pushed}
 use Rattle.tz_script.proofs.Order.{rounds_before}
 use Rattle.tz_version.specs.declared.sources.Sources.{Sources}
-use Rattle.pin_core.specs.declared.write.Change.{Change}
-use Rattle.pin_core.specs.declared.write.Write.{Write}
+use Rattle.pin_book.specs.declared.write.Change.{Change}
+use Rattle.pin_book.specs.declared.write.Write.{Write}
 use Rattle.tz_batch.specs.Batch.{Answered, each_answered}
 use Rattle.tz_batch.specs.declared.reply.Reply.{Reply}
 use Rattle.tz_run.specs.Session.{Session, opening_session, in_round}

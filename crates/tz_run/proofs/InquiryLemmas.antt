@@ -5,7 +5,7 @@ use Rattle.tz_expand.specs.declared.compiled_zone.CompiledZone.{CompiledZone}
 use Rattle.tz_output.specs.declared.conversion.Conversion.{Conversion}
 use Rattle.tz_version.specs.declared.sources.Sources.{Sources}
 use Rattle.tz_version.specs.Release.{Release, IsVersionOf}
-use Rattle.pin_core.specs.Replay.{Edition}
+use Rattle.pin_book.specs.Replay.{Edition}
 use Rattle.tz_batch.specs.Finding.{FindsInZone, FindsByClock}
 use Rattle.tz_batch.specs.declared.found.Found.{Found}
 use Rattle.tz_batch.specs.declared.answer.Answer.TheVariants as answers

@@ -7,10 +7,10 @@ use Rattle.std.proofs.lemmas.List.{length_push}
 use Rattle.tz_script.specs.declared.operation.Op.{Op}
 use Rattle.tz_script.specs.declared.operation.Op.TheVariants as ops
 use Rattle.tz_script.specs.declared.operation.Operation.{Operation}
-use Rattle.pin_core.specs.declared.write.Change.{Change}
-use Rattle.pin_core.specs.declared.write.Write.{Write}
-use Rattle.pin_core.specs.Replay.{replays}
-use Rattle.pin_core.specs.Sequence.{writes_by, counts_from}
+use Rattle.pin_book.specs.declared.write.Change.{Change}
+use Rattle.pin_book.specs.declared.write.Write.{Write}
+use Rattle.pin_book.specs.Replay.{replays}
+use Rattle.pin_book.specs.Sequence.{writes_by, counts_from}
 use Rattle.tz_batch.specs.Batch.{Batch, Answered, each_answered, answered}
 use Rattle.tz_batch.specs.Run.{PlacedChange, change_told, change_told_in, changes_told, changes_by, WritesAreReplies}
 use Rattle.tz_batch.specs.declared.answer.Answer.{Answer}

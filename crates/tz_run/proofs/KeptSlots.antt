@@ -7,13 +7,13 @@ use Rattle.tz_script.specs.declared.operation.Op.TheVariants as ops
 use Rattle.tz_script.specs.declared.operation.Pick.{Pick}
 use Rattle.tz_script.specs.declared.operation.Pick.TheVariants.{Front, Held}
 use Rattle.tz_version.specs.declared.sources.Sources.{Sources}
-use Rattle.pin_core.specs.declared.listed.Listed.{Listed}
-use Rattle.pin_core.specs.declared.write.Change.{Change}
-use Rattle.pin_core.specs.declared.write.Change.TheVariants.{Push, Erase}
-use Rattle.pin_core.specs.Replay.{Edition, ListState, allowed, after_change}
-use Rattle.pin_core.specs.Pushes.{pushes}
-use Rattle.pin_core.proofs.LawLemmas.{stands_for}
-use Rattle.pin_core.proofs.ReplayLemmas.{push_asks, replay_orderly, state_after_push}
+use Rattle.pin_book.specs.declared.listed.Listed.{Listed}
+use Rattle.pin_book.specs.declared.write.Change.{Change}
+use Rattle.pin_book.specs.declared.write.Change.TheVariants.{Push, Erase}
+use Rattle.pin_book.specs.Replay.{Edition, ListState, allowed, after_change}
+use Rattle.pin_book.specs.Pushes.{pushes}
+use Rattle.pin_book.proofs.LawLemmas.{stands_for}
+use Rattle.pin_book.proofs.ReplayLemmas.{push_asks, replay_orderly, state_after_push}
 use Rattle.tz_batch.specs.Batch.{Batch, Answered, answered, row_of}
 use Rattle.tz_batch.specs.Run.{InSlot, versions_told, SlotsKeep}
 use Rattle.tz_batch.specs.Answering.{IsToldAs}

@@ -15,15 +15,15 @@ use Rattle.tz_script.specs.declared.operation.Op.TheVariants as ops
 use Rattle.tz_script.specs.declared.operation.Operation.{Operation}
 use Rattle.tz_script.specs.declared.operation.Pick.{Pick}
 use Rattle.tz_version.specs.declared.sources.Sources.{Sources}
-use Rattle.pin_core.specs.declared.write.Change.{Change}
-use Rattle.pin_core.specs.declared.write.Change.TheVariants.{Push, Erase}
-use Rattle.pin_core.specs.declared.write.Write.{Write}
-use Rattle.pin_core.specs.Replay.{Edition, ListState, opening, front_of, allowed, after_change, state_after, replays}
-use Rattle.pin_core.specs.Pushes.{pushes}
-use Rattle.pin_core.specs.Sequence.{next_seq, AreCounted}
-use Rattle.pin_core.proofs.ListLemmas.{Stands}
-use Rattle.pin_core.proofs.ReplayLemmas.{replay_orderly, replays_push, state_after_push}
-use Rattle.pin_core.proofs.SequenceLemmas.{counted_push}
+use Rattle.pin_book.specs.declared.write.Change.{Change}
+use Rattle.pin_book.specs.declared.write.Change.TheVariants.{Push, Erase}
+use Rattle.pin_book.specs.declared.write.Write.{Write}
+use Rattle.pin_book.specs.Replay.{Edition, ListState, opening, front_of, allowed, after_change, state_after, replays}
+use Rattle.pin_book.specs.Pushes.{pushes}
+use Rattle.pin_book.specs.Sequence.{next_seq, AreCounted}
+use Rattle.pin_book.proofs.ListLemmas.{Stands}
+use Rattle.pin_book.proofs.ReplayLemmas.{replay_orderly, replays_push, state_after_push}
+use Rattle.pin_book.proofs.SequenceLemmas.{counted_push}
 use Rattle.tz_batch.specs.Batch.{Batch, Answered, answered, list_at, tells_write}
 use Rattle.tz_batch.specs.Finding.{FindsInfo, FindsLocal, FindsSys, FindsScan, FindsInZone, FindsByClock}
 use Rattle.tz_batch.specs.declared.answer.Answer.{Answer}

@@ -17,7 +17,7 @@ use Rattle.tz_batch.specs.Run.{IsRun}
 use Rattle.tz_batch.specs.declared.outcome.Outcome.{Outcome}
 use Rattle.tz_batch.specs.declared.reply.Reply.{Reply}
 use Rattle.tz_types.specs.declared.memory.NoMemory.{NoMemory}
-use Rattle.pin_core.specs.declared.limits.TheConstants.{FEWEST_SLOTS}
+use Rattle.pin_book.specs.declared.limits.TheConstants.{FEWEST_SLOTS}
 use Rattle.tz_run.specs.Session.{Session, opening_session, in_round}
 use Rattle.tz_run.specs.Asking.{HasHold}
 use Rattle.tz_run.specs.Leading.{Steps, Leads, AreServed}

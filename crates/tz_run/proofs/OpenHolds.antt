@@ -12,8 +12,8 @@ use Rattle.tz_script.specs.declared.operation.Op.{Op}
 use Rattle.tz_script.specs.declared.operation.Op.TheVariants as ops
 use Rattle.tz_script.specs.declared.operation.Operation.{Operation}
 use Rattle.tz_version.specs.declared.sources.Sources.{Sources}
-use Rattle.pin_core.specs.declared.write.Write.{Write}
-use Rattle.pin_core.specs.Replay.{Edition, ListState, front_of, state_after}
+use Rattle.pin_book.specs.declared.write.Write.{Write}
+use Rattle.pin_book.specs.Replay.{Edition, ListState, front_of, state_after}
 use Rattle.tz_batch.specs.Batch.{Batch, Answered, answered, list_at, newest_at}
 use Rattle.tz_batch.specs.Held.{holds_in, open_holds, IsOpenHold, IsHeldAs}
 use Rattle.tz_batch.specs.PassedOver.{IsHeldSlot}

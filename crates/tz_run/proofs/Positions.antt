@@ -2,7 +2,7 @@
 use Rattle.std.proofs.Common.{◌≡◌, ℕ, ◌+◌, ◌<◌, ◌≤◌, nat_lt, Bool, true, false, ◌&&◌, List, [], ◌∷◌, ◌++◌, length, fold, filter, count_by, refl, sym, ap, subst, ◌∙◌, append_assoc, length-append, arith}
 use Rattle.std.proofs.lemmas.Bool.{cond_both, lt-ltb, le-ltb}
 use Rattle.std.proofs.lemmas.List.Sums.{sum_by-cons, sum_by-append}
-use Rattle.pin_core.specs.declared.write.Write.{Write}
+use Rattle.pin_book.specs.declared.write.Write.{Write}
 use Rattle.tz_script.specs.declared.operation.Operation.{Operation}
 use Rattle.tz_version.specs.declared.sources.Sources.{Sources}
 use Rattle.tz_batch.specs.Batch.{Batch, Answered, each_answered, answered, tells_write, is_write_before, start_of, is_beside, position_before}

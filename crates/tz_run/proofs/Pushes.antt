@@ -4,7 +4,7 @@ use Rattle.std.proofs.lemmas.Bool.{both_ways}
 use Rattle.std.proofs.lemmas.List.{length_push}
 use Rattle.tz_script.specs.declared.operation.Op.{Op}
 use Rattle.tz_script.specs.declared.operation.Op.TheVariants as ops
-use Rattle.pin_core.specs.declared.write.Change.TheVariants.{Push}
+use Rattle.pin_book.specs.declared.write.Change.TheVariants.{Push}
 use Rattle.tz_batch.specs.Batch.{Batch, Answered}
 use Rattle.tz_batch.specs.Run.{TakesFirstSlot, PassesOver, PushesPassOver}
 use Rattle.tz_batch.specs.declared.answer.Answer.{Answer}

@@ -1,8 +1,8 @@
 -- An operation's turn in a batch: the session that it meets in its round, and the one after it.
 use Rattle.std.proofs.Common.{◌≡◌, ℕ, ◌≤◌, ◌<◌, true, List, ◌∷◌, ◌++◌, length, IsTrue, refl, sym, ap, subst, ◌∙◌, inl, inr, ⊎_elim}
 use Rattle.std.proofs.lemmas.Bool.{or_cases, or_left, or_right}
-use Rattle.pin_core.specs.declared.write.Write.{Write}
-use Rattle.pin_core.specs.Replay.{ListState, front_of, is_slot_listed}
+use Rattle.pin_book.specs.declared.write.Write.{Write}
+use Rattle.pin_book.specs.Replay.{ListState, front_of, is_slot_listed}
 use Rattle.tz_batch.specs.Batch.{Batch, Answered, answered, list_at, newest_at, position_before}
 use Rattle.tz_batch.specs.PassedOver.{IsHeldSlot, MayBeHeld, IsPassedOver, IsFull}
 use Rattle.tz_run.specs.Session.{Session, in_round, list_now, newest_now, is_slot_held, is_slot_taken, IsFilled}

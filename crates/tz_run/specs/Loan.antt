@@ -1,5 +1,5 @@
 -- Versions that are lent, as versions of the list.
-use Rattle.pin_core.specs.Replay.{Edition}
+use Rattle.pin_book.specs.Replay.{Edition}
 use Rattle.tz_run.specs.declared.loan.Loan.{Loan}
 
 -- the version of the list that is lent

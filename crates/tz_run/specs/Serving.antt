@@ -6,8 +6,8 @@ use Rattle.tz_script.specs.declared.operation.Op.TheVariants as ops
 use Rattle.tz_script.specs.declared.operation.Operation.{Operation}
 use Rattle.tz_script.specs.declared.operation.Pick.{Pick}
 use Rattle.tz_expand.specs.declared.compiled_zone.CompiledZone.{CompiledZone}
-use Rattle.pin_core.specs.declared.write.Change.TheVariants.{Push, Erase}
-use Rattle.pin_core.specs.Replay.{Edition, allowed, is_listed, greatest_below}
+use Rattle.pin_book.specs.declared.write.Change.TheVariants.{Push, Erase}
+use Rattle.pin_book.specs.Replay.{Edition, allowed, is_listed, greatest_below}
 use Rattle.tz_batch.specs.Batch.{name_of_source, row_of}
 use Rattle.tz_batch.specs.Answering.{IsToldAs, IsRefusedWith, IsAccepted}
 use Rattle.tz_batch.specs.Finding.{FindsInfo, FindsLocal, FindsSys, FindsScan, FindsInZone, FindsByClock}

@@ -4,10 +4,10 @@ use Rattle.std.specs.List.{list_any}
 use Rattle.tz_script.specs.declared.operation.Pick.{Pick}
 use Rattle.tz_script.specs.declared.operation.Pick.TheVariants.{Front, Held}
 use Rattle.tz_version.specs.declared.sources.Sources.{Sources}
-use Rattle.pin_core.specs.declared.write.Change.{Change}
-use Rattle.pin_core.specs.declared.write.Write.{Write}
-use Rattle.pin_core.specs.Replay.{Edition, ListState, state_after, front_of, is_slot_listed}
-use Rattle.pin_core.specs.Sequence.{next_seq}
+use Rattle.pin_book.specs.declared.write.Change.{Change}
+use Rattle.pin_book.specs.declared.write.Write.{Write}
+use Rattle.pin_book.specs.Replay.{Edition, ListState, state_after, front_of, is_slot_listed}
+use Rattle.pin_book.specs.Sequence.{next_seq}
 use Rattle.tz_run.specs.declared.hold.Hold.{Hold}
 
 -- The sources, how many slots the list has and how many writes may be made, the writes so far, the round, and the

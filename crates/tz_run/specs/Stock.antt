@@ -2,10 +2,10 @@
 use Rattle.std.specs.Prelude.{◌≡◌, ◌≤◌, ℕ, List, length, Option, Some, slice_get, Contains}
 use Rattle.tz_version.specs.declared.sources.Sources.{Sources}
 use Rattle.tz_version.specs.Release.{Release, IsVersionOf}
-use Rattle.pin_core.specs.declared.limits.TheConstants.{FEWEST_SLOTS, MOST_SLOTS, MOST_WRITES}
-use Rattle.pin_core.specs.Replay.{Edition}
-use Rattle.pin_core.specs.Names.{name_of}
-use Rattle.pin_core.specs.Book.{Chronicle, list_of, IsBook}
+use Rattle.pin_book.specs.declared.limits.TheConstants.{FEWEST_SLOTS, MOST_SLOTS, MOST_WRITES}
+use Rattle.pin_book.specs.Replay.{Edition}
+use Rattle.pin_book.specs.Names.{name_of}
+use Rattle.pin_book.specs.Book.{Chronicle, list_of, IsBook}
 use Rattle.tz_batch.specs.Batch.{name_of_source}
 use Rattle.tz_run.specs.Session.{Session, edition_held}
 use Rattle.tz_run.specs.declared.hold.Hold.{Hold}

@@ -6,7 +6,7 @@ ghost use Rattle.tz_run.specs.Asking.{HasHold};
 
 use crate::desk::Desk;
 use crate::loan::Loan;
-use pin_core::AfterError;
+use pin_book::AfterError;
 use tz_batch::Answer;
 use tz_script::Pick;
 

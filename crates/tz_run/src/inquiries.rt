@@ -12,7 +12,7 @@ ghost use Rattle.tz_run.specs.Asking.{HasHold};
 use crate::clock::find_by_clock;
 use crate::desk::Desk;
 use crate::lookup::{find_info, find_local, find_scan, find_sys};
-use pin_core::Listed;
+use pin_book::Listed;
 use std::alloc::Global;
 use tz_batch::{Answer, Listing};
 use tz_output::Conversion;

@@ -3,7 +3,7 @@
 //! `run_script` opens the list with the version of the first source, and answers the outcome: the journal, and one reply
 //! to each operation. That outcome is a run of the script, by the definition in `tz_batch`. A `Gate` is passed before
 //! each operation; it tells nothing, and is there for who has to hold an operation back. The crate stands on `tz_script`
-//! for scripts, on `tz_version` for versions, on `pin_core` for the list, and on `tz_batch` for what a run means.
+//! for scripts, on `tz_version` for versions, on `pin_book` for the list, and on `tz_batch` for what a run means.
 //!
 //! ```rust
 //! // `sources` has two texts, so the script may reload texts 0 and 1

@@ -4,7 +4,7 @@ ghost use Rattle.tz_types.specs.declared.fault.Fault.{Fault};
 ghost use Rattle.tz_script.specs.Inside.{change_count};
 ghost use Rattle.tz_script.specs.Keeping.{KeepsSources};
 ghost use Rattle.tz_version.specs.Refusal.{RefusesLeapText, RefusesSource};
-ghost use Rattle.pin_core.specs.declared.limits.TheConstants.{FEWEST_SLOTS, MOST_SLOTS};
+ghost use Rattle.pin_book.specs.declared.limits.TheConstants.{FEWEST_SLOTS, MOST_SLOTS};
 ghost use Rattle.tz_batch.specs.Positions.{PositionsCountWrites};
 ghost use Rattle.tz_batch.specs.Run.{IsRun};
 ghost use Rattle.tz_run.specs.Session.{opening_session};

@@ -3,7 +3,7 @@ ghost use Rattle.std.specs.Prelude.{◌≡◌, ◌≤◌, length, IfOk, IfErr};
 ghost use Rattle.tz_types.specs.declared.limit.TheConstants.{MOST_BYTES};
 ghost use Rattle.tz_script.specs.Keeping.{KeepsSources};
 ghost use Rattle.tz_script.specs.Script.{ReadsScript};
-ghost use Rattle.pin_core.specs.declared.limits.TheConstants.{FEWEST_SLOTS, MOST_SLOTS};
+ghost use Rattle.pin_book.specs.declared.limits.TheConstants.{FEWEST_SLOTS, MOST_SLOTS};
 ghost use Rattle.tz_batch.specs.Answering.{IsAccepted};
 ghost use Rattle.tz_batch.specs.Positions.{PositionsCountWrites};
 ghost use Rattle.tz_batch.specs.Run.{IsRun};

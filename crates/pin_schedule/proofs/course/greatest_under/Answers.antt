@@ -1,5 +1,5 @@
 use Rattle.std.proofs.Common.{rules, ◌≡◌, ℕ, map, filter, fold, max, ltb, arith}
-use Rattle.pin_core.specs.Replay.{greatest_number}
+use Rattle.pin_book.specs.Replay.{greatest_number}
 use Rattle.pin_schedule.specs.declared.row.Row.{Row}
 use Rattle.pin_schedule.proofs.ListedLemmas.{fold_greatest}
 use Rattle.pin_schedule.proofs.course.greatest_under.Goals as goal

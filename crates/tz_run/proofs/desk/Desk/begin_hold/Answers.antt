@@ -1,7 +1,7 @@
 use Rattle.std.proofs.Common.{◌≡◌, ap}
-use Rattle.pin_core.specs.declared.listed.Listed.{Listed}
-use Rattle.pin_core.specs.Replay.{Edition, front_of}
-use Rattle.pin_core.specs.Book.{list_of}
+use Rattle.pin_book.specs.declared.listed.Listed.{Listed}
+use Rattle.pin_book.specs.Replay.{Edition, front_of}
+use Rattle.pin_book.specs.Book.{list_of}
 use Rattle.tz_run.specs.declared.hold.Hold.{Hold}
 use Rattle.tz_run.specs.Session.{edition_held}
 use Rattle.tz_run.proofs.DeskLemmas.{held_stocked}

@@ -1,5 +1,5 @@
-use Rattle.pin_core.specs.Replay.{Edition, front_of}
-use Rattle.pin_core.specs.Book.{list_of}
+use Rattle.pin_book.specs.Replay.{Edition, front_of}
+use Rattle.pin_book.specs.Book.{list_of}
 use Rattle.tz_run.proofs.DeskLemmas.{front_is_listed, placed_version}
 use Rattle.tz_run.proofs.desk.Desk.newest.Goals as goal
 

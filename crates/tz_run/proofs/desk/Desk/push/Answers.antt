@@ -1,11 +1,11 @@
 use Rattle.std.proofs.Common.{◌≡◌, refl, sym, ap, ◌∙◌, subst}
 use Rattle.std.proofs.lemmas.Bool.{or_parts}
 use Rattle.tz_version.specs.Release.{Release, IsVersionOf}
-use Rattle.pin_core.specs.declared.write.Change.TheVariants.{Push}
-use Rattle.pin_core.specs.declared.write.Write.{Write}
-use Rattle.pin_core.specs.Replay.{is_slot_listed}
-use Rattle.pin_core.specs.Sequence.{next_seq}
-use Rattle.pin_core.specs.Book.{list_of}
+use Rattle.pin_book.specs.declared.write.Change.TheVariants.{Push}
+use Rattle.pin_book.specs.declared.write.Write.{Write}
+use Rattle.pin_book.specs.Replay.{is_slot_listed}
+use Rattle.pin_book.specs.Sequence.{next_seq}
+use Rattle.pin_book.specs.Book.{list_of}
 use Rattle.tz_run.specs.Session.{Session, IsFirstFree, is_slot_held}
 use Rattle.tz_run.specs.Stock.{session_over}
 use Rattle.tz_run.proofs.DeskLemmas.{pushed_stocked, push_allowed}

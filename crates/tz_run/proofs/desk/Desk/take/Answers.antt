@@ -1,6 +1,6 @@
 use Rattle.std.proofs.Common.{refl, sym, ap, ◌∙◌}
 use Rattle.std.proofs.lemmas.Bool.{false≢true}
-use Rattle.pin_core.specs.Replay.{Edition}
+use Rattle.pin_book.specs.Replay.{Edition}
 use Rattle.tz_run.proofs.ReloadLemmas.{made_is_accepted}
 use Rattle.tz_run.proofs.desk.Desk.take.Goals as goal
 

@@ -1,7 +1,7 @@
 use Rattle.std.proofs.Common.{refl}
-use Rattle.pin_core.specs.declared.write.Change.TheVariants.{Erase}
-use Rattle.pin_core.specs.declared.write.Write.{Write}
-use Rattle.pin_core.specs.Sequence.{next_seq}
+use Rattle.pin_book.specs.declared.write.Change.TheVariants.{Erase}
+use Rattle.pin_book.specs.declared.write.Write.{Write}
+use Rattle.pin_book.specs.Sequence.{next_seq}
 use Rattle.tz_run.proofs.DeskLemmas.{erased_stocked}
 use Rattle.tz_run.proofs.desk.Desk.take_off.Goals as goal
 

@@ -1,5 +1,0 @@
-use Rattle.pin_core.proofs.LawLemmas.{erase_low}
-use Rattle.pin_core.proofs.replay_laws.front_is_never_erased.Goals as goal
-
-pub returns : goal.returns
-returns c = erase_low

@@ -1,5 +1,0 @@
-use Rattle.pin_core.proofs.LawLemmas.{listed_told}
-use Rattle.pin_core.proofs.replay_laws.listed_is_pushed_and_not_erased.Goals as goal
-
-pub returns : goal.returns
-returns c = listed_told

@@ -1,5 +1,0 @@
-use Rattle.pin_core.proofs.LawLemmas.{some_listed, numbers_fall}
-use Rattle.pin_core.proofs.replay_laws.listed_numbers_fall.Goals as goal
-
-pub returns : goal.returns
-returns c = record { some = some_listed; fall = numbers_fall }
