@@ -1,3 +1,12 @@
+pub mod Layout
+pub mod Seat
 pub mod Shelf
 pub mod Copies
 pub mod Carried
+pub mod Sources
+pub mod Places
+pub mod Rule
+pub mod Table
+pub mod Position
+pub mod Opening
+pub mod Main

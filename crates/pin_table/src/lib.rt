@@ -4,11 +4,23 @@
 mod cell;
 mod copies;
 mod exchange;
+mod layout;
+mod main_seat;
+mod opening;
+mod packing;
+mod position;
+mod rule;
 mod shelf;
 mod sitting;
+mod table;
 
 pub use cell::Cell;
 pub use copies::Copies;
 pub use exchange::{Carried, MOST_CARRIED};
+pub use layout::{FIRST_SLOT_WORD, FRONT_WORD, TURN_WORD, WORD_STRIDE};
+pub use main_seat::Main;
+pub use position::Position;
+pub use rule::{Base, Board, Chair, ListRule};
 pub use shelf::{SHELF_COPIES, Shelf};
-pub use sitting::{Key, Sitting};
+pub use sitting::{Key, Plan, Sitting};
+pub use table::PinTable;
