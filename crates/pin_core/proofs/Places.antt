@@ -171,7 +171,7 @@ take_stays s id number slot reader at v e has may other =
 pub exchange_stays : (s : CoreState) (id number slot reader : ℕ) (v : View) → HasReader s id number v → total (away slot reader) (exchange_turn s id number v).views ≡ total (away slot reader) s.views
 exchange_stays s id number slot reader v has =
     cond_both (is_some s.turn) (miss_turn s id v) (take_turn s id number v) (λ (t : CoreState). total (away slot reader) t.views ≡ total (away slot reader) s.views)
-    (λ _. total_kept (away slot reader) s.views id v (was_refused v) has.here refl) (λ _. total_kept (away slot reader) s.views id v (got_turn s.journal v) has.here refl)
+    (λ _. total_kept (away slot reader) s.views id v (was_refused s.turn v) has.here refl) (λ _. total_kept (away slot reader) s.views id v (got_turn s.journal v) has.here refl)
 
 pub claim_stays : (s : CoreState) (id number slot reader taken : ℕ) (v : View) → HasReader s id number v → MayClaim s taken v → slot ≢ taken → total (away slot reader) (claim_slot s id v taken).views ≡ total (away slot reader) s.views
 claim_stays s id number slot reader taken v has may other =

@@ -92,9 +92,9 @@ pub record WasFront (slots : ℕ) (journal : List Write) (floor seen : ℕ) (e :
   pub late : floor ≤ e.position
   pub told : e.position ≤ seen
 
--- the slot was the front's after some number of writes, not before the floor
-abbrev pub WasFrontOnce : ℕ → List Write → ℕ → ℕ → Type 0
-WasFrontOnce slots journal floor slot = (w : ℕ) × (floor ≤ w) × (w ≤ length journal) × (slot ≡ front_slot slots (take w journal))
+-- the slot was the front's after some number of writes, not before the floor and not after what the seat has seen
+abbrev pub WasFrontOnce : ℕ → List Write → ℕ → ℕ → ℕ → Type 0
+WasFrontOnce slots journal floor seen slot = (w : ℕ) × (floor ≤ w) × (w ≤ seen) × (slot ≡ front_slot slots (take w journal))
 
 -- each entry's slot was the front's at its position, and each slot that a claim found pinned was the front's once; all
 -- seats know one floor, and have seen at least as many writes
@@ -102,7 +102,7 @@ pub record KnowsPlaces (slots : ℕ) (journal : List Write) (floor : ℕ) (v : V
   pub same : v.floor ≡ floor
   pub above : floor ≤ length v.seen
   pub entries : All (WasFront slots journal floor (length v.seen)) v.entries
-  pub pinned : All (WasFrontOnce slots journal floor) v.pinned
+  pub pinned : All (WasFrontOnce slots journal floor (length v.seen)) v.pinned
 
 -- ---- (g) the room ----
 
