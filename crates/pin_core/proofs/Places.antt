@@ -39,7 +39,7 @@ away_bare slot reader v none = let part = cond_both (has_number reader v == 0) 0
 away_own : (slot reader : ℕ) (v : View) → has_number reader v ≡ 1 → away slot reader v ≡ has_claimed slot v + held_at slot v
 away_own slot reader v one = let part = cond-false (has_number reader v == 0) 0 (held_at slot v) (ne_eqb (has_number reader v) 0 (λ none. omega arith)) in omega arith
 
-claims_self : (slot : ℕ) (claimed : Option ℕ) → claimed ≡ Some slot → claims slot claimed ≡ 1
+pub claims_self : (slot : ℕ) (claimed : Option ℕ) → claimed ≡ Some slot → claims slot claimed ≡ 1
 claims_self slot claimed is = ap (claims slot) is ∙ ap one_if (eq-eqb slot slot refl)
 
 held_le : (slot : ℕ) (entries : List Entry) → total (λ (e : Entry). one_if ((e.slot == slot) && e.held)) entries ≤ total (λ (e : Entry). one_if (e.slot == slot)) entries

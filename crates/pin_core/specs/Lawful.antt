@@ -1,6 +1,6 @@
 -- When a state is lawful. Each part stands alone and can be read alone. Each is one of three kinds: a sum over all
 -- seats, a fact of each seat against what is shared, or a fact of what is shared alone.
-use Rattle.std.specs.Prelude.{◌≡◌, ℕ, ◌+◌, ◌*◌, ◌≤◌, ◌<◌, true, false, ◌==◌, if◌then◌else◌, is_some, Option, Some, None, List, [], ◌∷◌, length, take, All}
+use Rattle.std.specs.Prelude.{Bool, ◌≡◌, ℕ, ◌+◌, ◌*◌, ◌≤◌, ◌<◌, true, false, ◌==◌, if◌then◌else◌, is_some, Option, Some, None, List, [], ◌∷◌, length, take, All}
 use mathlib.Core.Option.{some}
 use lib.ListN.{get_elem?}
 use Rattle.pin_book.specs.declared.write.Write.{Write}
@@ -144,3 +144,10 @@ PlacesAtHome IsAtHome s =
 -- the book is at home with this journal where no seat has the turn
 abbrev pub BookAtHome : (List Write → Type 0) → CoreState → Type 0
 BookAtHome IsAtHome s = s.turn ≡ None → IsAtHome s.journal
+
+-- what a test of places, and one of journals, lets pass
+abbrev pub Passes : (ℕ → ℕ → ℕ → Bool) → ℕ → ℕ → ℕ → Type 0
+Passes test slot reader number = test slot reader number ≡ true
+
+abbrev pub JournalPasses : (List Write → Bool) → List Write → Type 0
+JournalPasses test journal = test journal ≡ true

@@ -31,6 +31,10 @@ pub record HasHandle (s : CoreState) (id number : ℕ) (v : View) (e : Entry) : 
   pub among : Contains v.entries e
   pub held : e.held ≡ true
 
+-- some seat is that of the reader of this number
+abbrev pub IsOut : CoreState → ℕ → Type 0
+IsOut s number = (id : ℕ) × (v : View) × HasReader s id number v
+
 -- ---- 1: load the front word ----
 -- Always allowed.
 
