@@ -6,3 +6,4 @@ pub mod Journal
 pub mod Standing
 pub mod Book
 pub mod Messages
+pub mod Sources

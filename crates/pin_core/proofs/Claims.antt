@@ -105,8 +105,8 @@ entry_there slot (e ∷ es) more P all =
     (λ (no : e.slot ≢ slot). let zero = ap one_if (ne_eqb e.slot slot no) in entry_there slot es (omega arith) P (All-tail P e es all)) (cases_eq e.slot slot)
 
 -- the slot of an entry was the front's once
-was_once : (slots : ℕ) (journal : List Write) (floor seen slot : ℕ) (e : Entry) → WasFront slots journal floor seen e → e.slot ≡ slot → seen ≤ length journal → WasFrontOnce slots journal floor slot
-was_once slots journal floor seen slot e was is within = let told = was.told in (e.position, was.late, omega arith, sym is ∙ was.front)
+was_once : (slots : ℕ) (journal : List Write) (floor seen more slot : ℕ) (e : Entry) → WasFront slots journal floor seen e → e.slot ≡ slot → seen ≤ more → WasFrontOnce slots journal floor more slot
+was_once slots journal floor seen more slot e was is within = let told = was.told in (e.position, was.late, omega arith, sym is ∙ was.front)
 
 pub claims_pinned : (s : CoreState) (id number : ℕ) (v : View) (slot : ℕ) → Lawful s → HasReader s id number v → MayClaim s slot v → 0 < count_at s.words slot → Lawful (miss_slot s id v slot)
 claims_pinned s id number v slot h has may some_pin =
@@ -118,7 +118,8 @@ claims_pinned s id number v slot h has may some_pin =
     let theirs = h.places seat.0 seat.1 seat.2 lives in
     let told = seen_within s.journal seat.1.seen (h.owners.each seat.0 seat.1 seat.2 lives).seen in
     let found = entry_there slot seat.1.entries seat.3 (WasFront s.slots s.journal s.floor (length seat.1.seen)) theirs.entries in
-    let once = was_once s.slots s.journal s.floor (length seat.1.seen) slot found.0 found.2 found.1 told in
+    let whole = ap (λ (l : List Write). length l) (turn.current may.turn) in
+    let once = was_once s.slots s.journal s.floor (length seat.1.seen) (length v.seen) slot found.0 found.2 found.1 (omega arith) in
     record {
       pins = λ slot inside. h.pins slot inside ∙ sym (total_kept (pins_at slot) s.views id v w here refl);
       spent = spent_kept s.views id w live h.spent;
@@ -154,7 +155,7 @@ claims_pinned s id number v slot h has may some_pin =
         same = places.same;
         above = places.above;
         entries = places.entries;
-        pinned = All-with_number (WasFrontOnce s.slots s.journal s.floor) slot v.pinned once places.pinned;
+        pinned = All-with_number (WasFrontOnce s.slots s.journal s.floor (length v.seen)) slot v.pinned once places.pinned;
       } (λ j u _ there. h.places j u there);
       room = (let sum = total_kept allowance_of s.views id v w here refl in let room = h.room in omega arith);
       few = each_set _ s.views id w (h.few id v here live) (λ j u _ there. h.few j u there);

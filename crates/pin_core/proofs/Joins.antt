@@ -13,7 +13,7 @@ use Rattle.pin_core.specs.declared.view.View.{View}
 use Rattle.pin_core.specs.declared.view.Role.TheVariants as roles
 use Rattle.pin_book.specs.Sequence.{writes_by}
 use Rattle.pin_core.specs.Core.{CoreState, total, one_if, has_number, number_count, is_main, mains, pins_at, claims, has_claimed, has_turn, allowance_of, spent, EachSeat}
-use Rattle.pin_core.specs.Lawful.{Lawful, WasFront}
+use Rattle.pin_core.specs.Lawful.{Lawful, WasFront, WasFrontOnce}
 use Rattle.pin_core.specs.Step.{MayJoin, taken_in, join}
 use Rattle.pin_core.proofs.Sums.{at_set, set_else, total-set, total-append, terms_le}
 use Rattle.pin_core.proofs.Splits.{inside_of}
@@ -144,7 +144,7 @@ joins s id v other w h here there may =
         same = places.same;
         above = cond_both (nat_lt (length v.seen) (length w.seen)) w.seen v.seen (λ (l : List Write). s.floor ≤ length l) (λ _. places_w.above) (λ _. places.above);
         entries = subst (λ (es : List Entry). All (WasFront s.slots s.journal s.floor (length longer)) es) (sym bare.0) (All-nil (WasFront s.slots s.journal s.floor (length longer)));
-        pinned = places.pinned;
+        pinned = subst (λ (ns : List ℕ). All (WasFrontOnce s.slots s.journal s.floor (length longer)) ns) (sym bare.3) (All-nil (WasFrontOnce s.slots s.journal s.floor (length longer)));
       } (λ j u _ _ at. h.places j u at);
       room = (let sum = total_join allowance_of s.views id other v w both apart here there refl refl in let room = h.room in omega arith);
       few = each_join _ s.views id other both (let few = h.few id v here live in let more = length-append v.numbers w.numbers in omega arith) (λ j u _ _ at. h.few j u at);

@@ -16,3 +16,6 @@ pub mod Places
 pub mod Seen
 pub mod Floors
 pub mod Strays
+pub mod Holders
+pub mod Allowances
+pub mod AtHome

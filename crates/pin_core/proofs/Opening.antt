@@ -112,7 +112,7 @@ opens slots readers room some_slot =
         same = refl;
         above = omega arith;
         entries = All-nil (WasFront slots [] 0 0);
-        pinned = All-nil (WasFrontOnce slots [] 0);
+        pinned = All-nil (WasFrontOnce slots [] 0 0);
       };
       room = omega arith;
       spent = λ id u at is. absurd (main_only v refl id u at is);
@@ -209,12 +209,12 @@ opens_with_readers slots readers writes some_slot =
         same = refl;
         above = omega arith;
         entries = All-nil (WasFront slots [] 0 0);
-        pinned = All-nil (WasFrontOnce slots [] 0);
+        pinned = All-nil (WasFrontOnce slots [] 0 0);
       } (λ n low. record {
         same = refl;
         above = omega arith;
         entries = All-nil (WasFront slots [] 0 0);
-        pinned = All-nil (WasFrontOnce slots [] 0);
+        pinned = All-nil (WasFrontOnce slots [] 0 0);
       });
       room = (let all = allowances_out writes 0 readers in omega arith);
       spent = λ id u at is. (let live : u.role ≢ roles.Spent = no_spent id u at in absurd (live is));

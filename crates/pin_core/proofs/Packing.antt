@@ -1,5 +1,5 @@
 -- Words of lawful states are small, and what is packed can be read back.
-use Rattle.std.proofs.Common.{◌≡◌, ℕ, zero, suc, ◌+◌, ◌*◌, ◌/◌, ◌%◌, ◌^◌, ◌≤◌, ◌<◌, List, [], ◌∷◌, length, refl, ap, arith, true, ◌==◌}
+use Rattle.std.proofs.Common.{◌≡◌, ℕ, zero, suc, ◌+◌, ◌*◌, ◌/◌, ◌%◌, ◌^◌, ◌≤◌, ◌<◌, List, [], ◌∷◌, length, refl, ap, arith, true, ◌==◌, Option, Some, None, ◌↔◌}
 use mathlib.Core.Option.{some}
 use lib.ListN.{get_elem?}
 use Rattle.std.proofs.lemmas.List.{length-append}
@@ -15,11 +15,12 @@ use Rattle.pin_book.specs.Replay.{replays, front_number}
 use Rattle.pin_book.specs.Pushes.{pushed_by, pushes}
 use Rattle.pin_core.specs.Core.{CoreState, Front, number_at, count_at, total, one_if, pins_at, has_claimed, number_count}
 use Rattle.pin_core.specs.Lawful.{Lawful}
-use Rattle.pin_core.specs.Packing.{packed_slot, packed_front, place, book_place}
+use Rattle.pin_core.specs.Packing.{packed_slot, packed_front, packed_turn, place, book_place}
 use Rattle.pin_core.proofs.Sums.{total_some, one_if-le}
 use Rattle.pin_book.proofs.ReplayLemmas.{replay_orderly}
 use Rattle.pin_book.proofs.Journals.{kept_le, front_slot_inside}
 use Rattle.pin_core.proofs.Readers.{claims_is, claimer_lives}
+use Rattle.pin_core.proofs.Holders.{holder_out}
 
 -- no more versions are pushed than there are writes
 pushes_le : (journal : List Write) → length (pushes journal) ≤ length journal
@@ -74,6 +75,22 @@ slot_back number count low few = (omega arith, omega arith, omega arith)
 pub front_back : (w n slot : ℕ) → w < 2 ^ 26 → n < 2 ^ 26 → slot < 2 ^ 6 → (packed_front record { w = w; n = n; slot = slot } < 2 ^ 64) × (packed_front record { w = w; n = n; slot = slot } / 2 ^ 32 ≡ w)
     × (packed_front record { w = w; n = n; slot = slot } / 2 ^ 6 % 2 ^ 26 ≡ n) × (packed_front record { w = w; n = n; slot = slot } % 2 ^ 6 ≡ slot)
 front_back w n slot low lower lowest = (omega arith, omega arith, omega arith, omega arith)
+
+pub turn_small : (s : CoreState) → Lawful s → packed_turn s.turn ≤ s.readers
+turn_small s h = by_turn s.turn refl
+  where
+    by_turn : (turn : Option ℕ) → s.turn ≡ turn → packed_turn turn ≤ s.readers
+    by_turn None is = omega arith
+    by_turn (Some holder) is = let inside = (holder_out s holder h is).4 in omega arith
+
+pub turn_alone : (turn other : Option ℕ) → packed_turn turn ≡ packed_turn other → turn ≡ other
+turn_alone None None same = refl
+turn_alone None (Some other) same = absurd (omega arith)
+turn_alone (Some number) None same = absurd (omega arith)
+turn_alone (Some number) (Some other) same = let is : number ≡ other = omega arith in ap (λ n. Some n) is
+
+pub turn_nobody : (turn : Option ℕ) → (packed_turn turn ≡ 0) ↔ (turn ≡ None)
+turn_nobody turn = ((λ zero. turn_alone turn None zero), (λ none. ap packed_turn none))
 
 pub apart : (slot other reader another : ℕ) → reader < READER_NUMBERS → another < READER_NUMBERS → place slot reader ≡ place other another → (slot ≡ other) × (reader ≡ another)
 apart slot other reader another low lower same = (omega arith, omega arith)

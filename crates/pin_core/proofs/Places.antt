@@ -39,7 +39,7 @@ away_bare slot reader v none = let part = cond_both (has_number reader v == 0) 0
 away_own : (slot reader : ℕ) (v : View) → has_number reader v ≡ 1 → away slot reader v ≡ has_claimed slot v + held_at slot v
 away_own slot reader v one = let part = cond-false (has_number reader v == 0) 0 (held_at slot v) (ne_eqb (has_number reader v) 0 (λ none. omega arith)) in omega arith
 
-claims_self : (slot : ℕ) (claimed : Option ℕ) → claimed ≡ Some slot → claims slot claimed ≡ 1
+pub claims_self : (slot : ℕ) (claimed : Option ℕ) → claimed ≡ Some slot → claims slot claimed ≡ 1
 claims_self slot claimed is = ap (claims slot) is ∙ ap one_if (eq-eqb slot slot refl)
 
 held_le : (slot : ℕ) (entries : List Entry) → total (λ (e : Entry). one_if ((e.slot == slot) && e.held)) entries ≤ total (λ (e : Entry). one_if (e.slot == slot)) entries
@@ -171,7 +171,7 @@ take_stays s id number slot reader at v e has may other =
 pub exchange_stays : (s : CoreState) (id number slot reader : ℕ) (v : View) → HasReader s id number v → total (away slot reader) (exchange_turn s id number v).views ≡ total (away slot reader) s.views
 exchange_stays s id number slot reader v has =
     cond_both (is_some s.turn) (miss_turn s id v) (take_turn s id number v) (λ (t : CoreState). total (away slot reader) t.views ≡ total (away slot reader) s.views)
-    (λ _. total_kept (away slot reader) s.views id v (was_refused v) has.here refl) (λ _. total_kept (away slot reader) s.views id v (got_turn s.journal v) has.here refl)
+    (λ _. total_kept (away slot reader) s.views id v (was_refused s.turn v) has.here refl) (λ _. total_kept (away slot reader) s.views id v (got_turn s.journal v) has.here refl)
 
 pub claim_stays : (s : CoreState) (id number slot reader taken : ℕ) (v : View) → HasReader s id number v → MayClaim s taken v → slot ≢ taken → total (away slot reader) (claim_slot s id v taken).views ≡ total (away slot reader) s.views
 claim_stays s id number slot reader taken v has may other =

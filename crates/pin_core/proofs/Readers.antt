@@ -148,7 +148,7 @@ seq_at number before (y ∷ ys) (suc place) x counted there by = ⊎_elim
     let long = ap (λ (l : List Write). length l) (cond-false (y.by == number) (y ∷ writes_by number (take place ys)) (writes_by number (take place ys)) else) in omega arith) (cases_Bool (y.by == number))
 
 -- a write of the number between two places counts
-more_by : (number : ℕ) (journal : List Write) (place later : ℕ) (x : Write) → place < later → slice_get journal place ≡ Some x → x.by ≡ number → length (writes_by number (take place journal)) + 1 ≤ length (writes_by number (take later journal))
+pub more_by : (number : ℕ) (journal : List Write) (place later : ℕ) (x : Write) → place < later → slice_get journal place ≡ Some x → x.by ≡ number → length (writes_by number (take place journal)) + 1 ≤ length (writes_by number (take later journal))
 more_by number [] place later x less there by = absurd (cc)
 more_by number (y ∷ ys) place zero x less there by = absurd (omega arith)
 more_by number (y ∷ ys) zero (suc later) x less there by =

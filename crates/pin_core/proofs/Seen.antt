@@ -86,7 +86,7 @@ seen_grows s t h (adds id number v has may) = grows_by s t id v (pinned s.slots 
 seen_grows s t h (takes_off id number v place e has may) = grows_by s t id v (unpinned place v) has.here refl (same v.seen)
 seen_grows s t h (exchanges id number v has may) =
     cond_both (is_some s.turn) (miss_turn s id v) (take_turn s id number v) (λ (u : CoreState). Grows s u)
-    (λ _. grows_by s (miss_turn s id v) id v (was_refused v) has.here refl (same v.seen))
+    (λ _. grows_by s (miss_turn s id v) id v (was_refused s.turn v) has.here refl (same v.seen))
     (λ _. grows_by s (take_turn s id number v) id v (got_turn s.journal v) has.here refl (whole s id v h has.here (is_live number v has.reader)))
 seen_grows s t h (claims_slot id number v slot has may) =
     cond_both (count_at s.words slot == 0) (claim_slot s id v slot) (miss_slot s id v slot) (λ (u : CoreState). Grows s u)

@@ -167,12 +167,12 @@ splits s id v number writes h here may =
         same = refl;
         above = above;
         entries = subst (λ (es : List Entry). All (WasFront s.slots s.journal floor (length v.seen)) es) (sym bare.0) (All-nil (WasFront s.slots s.journal floor (length v.seen)));
-        pinned = subst (λ (ns : List ℕ). All (WasFrontOnce s.slots s.journal floor) ns) (sym bare.3) (All-nil (WasFrontOnce s.slots s.journal floor));
+        pinned = subst (λ (ns : List ℕ). All (WasFrontOnce s.slots s.journal floor (length v.seen)) ns) (sym bare.3) (All-nil (WasFrontOnce s.slots s.journal floor (length v.seen)));
       } record {
         same = refl;
         above = above;
         entries = All-nil (WasFront s.slots s.journal floor (length v.seen));
-        pinned = All-nil (WasFrontOnce s.slots s.journal floor);
+        pinned = All-nil (WasFrontOnce s.slots s.journal floor (length v.seen));
       } others;
       room = (let sum = total_split allowance_of s.views id v left right here (let room = may.room in omega arith) in let room = h.room in omega arith);
       few = each_split _ s.views id left right (let none = ap (λ (es : List Entry). length es) bare.0 in omega arith) (omega arith) (λ j u _ there. h.few j u there);

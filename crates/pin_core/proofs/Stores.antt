@@ -91,8 +91,8 @@ stores s id number v write h has may =
       late = was.late;
       told = (let told = was.told in omega arith);
     } in
-    let pinned : (u : View) → KnowsPlaces s.slots s.journal s.floor u → All (WasFrontOnce s.slots journal s.floor) u.pinned =
-    λ u place k d low. let was = place.pinned k d low in let inside = was.2 in (was.0, was.1, omega arith, was.3 ∙ ap (front_slot s.slots) (sym (take-append-le was.0 s.journal (write ∷ []) was.2))) in
+    let pinned : (u : View) (more : ℕ) → length u.seen ≤ length s.journal → length u.seen ≤ more → KnowsPlaces s.slots s.journal s.floor u → All (WasFrontOnce s.slots journal s.floor more) u.pinned =
+    λ u more within longer place k d low. let was = place.pinned k d low in let inside = was.2 in (was.0, was.1, omega arith, was.3 ∙ ap (front_slot s.slots) (sym (take-append-le was.0 s.journal (write ∷ []) (omega arith)))) in
     let within : (u : View) → KnowsWrites s.readers s.journal u → length u.seen ≤ length s.journal = λ u f. seen_within s.journal u.seen f.seen in
     let mine = within v writes in
     let seen_is : v.seen ++ write ∷ [] ≡ journal = ap (λ (l : List Write). l ++ write ∷ []) current in
@@ -159,12 +159,12 @@ stores s id number v write h has may =
         same = places.same;
         above = (let above = places.above in let long = length_push v.seen write in omega arith);
         entries = entries v (length (v.seen ++ write ∷ [])) mine (let long = length_push v.seen write in omega arith) places;
-        pinned = pinned v places;
+        pinned = pinned v (length (v.seen ++ write ∷ [])) mine (let long = length_push v.seen write in omega arith) places;
       } (λ j u _ there lives. let f = h.places j u there lives in record {
         same = f.same;
         above = f.above;
         entries = entries u (length u.seen) (within u (h.owners.each j u there lives)) (omega arith) f;
-        pinned = pinned u f;
+        pinned = pinned u (length u.seen) (within u (h.owners.each j u there lives)) (omega arith) f;
       });
       room = (let sum = total-set allowance_of s.views id v w here in let room = h.room in let some_left = may.allowance in omega arith);
       few = each_set _ s.views id w (h.few id v here live) (λ j u _ there. h.few j u there);

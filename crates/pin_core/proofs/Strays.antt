@@ -79,7 +79,7 @@ apart_moves s t h all (adds id number v has may) = apart_set s.views id (pinned 
 apart_moves s t h all (takes_off id number v place e has may) = apart_set s.views id (unpinned place v) all
     (λ one other there here held stray. all id v has.here one other (removed_among v.entries place one there) (removed_among v.entries place other here) held stray)
 apart_moves s t h all (exchanges id number v has may) =
-    cond_both (is_some s.turn) (miss_turn s id v) (take_turn s id number v) (λ (u : CoreState). AllApart u.views) (λ _. apart_set s.views id (was_refused v) all (all id v has.here)) (λ _. apart_set s.views id (got_turn s.journal v) all (all id v has.here))
+    cond_both (is_some s.turn) (miss_turn s id v) (take_turn s id number v) (λ (u : CoreState). AllApart u.views) (λ _. apart_set s.views id (was_refused s.turn v) all (all id v has.here)) (λ _. apart_set s.views id (got_turn s.journal v) all (all id v has.here))
 apart_moves s t h all (claims_slot id number v slot has may) =
     cond_both (count_at s.words slot == 0) (claim_slot s id v slot) (miss_slot s id v slot) (λ (u : CoreState). AllApart u.views) (λ _. apart_set s.views id (claiming slot v) all (all id v has.here)) (λ _. apart_set s.views id (found_pinned slot v) all (all id v has.here))
 apart_moves s t h all (stores id number v write has may) = apart_set s.views id (stored write v) all (all id v has.here)

@@ -68,7 +68,7 @@ takes s id number v h has may free =
         same = places.same;
         above = (let above = places.above in omega arith);
         entries = All-weaker (WasFront s.slots s.journal s.floor (length v.seen)) (WasFront s.slots s.journal s.floor (length s.journal)) (λ e f. record { front = f.front; late = f.late; told = (let told = f.told in omega arith) }) v.entries places.entries;
-        pinned = All-nil (WasFrontOnce s.slots s.journal s.floor);
+        pinned = All-nil (WasFrontOnce s.slots s.journal s.floor (length s.journal));
       } (λ j u _ there. h.places j u there);
       room = (let sum = total_kept allowance_of s.views id v w here refl in let room = h.room in omega arith);
       few = each_set _ s.views id w (h.few id v here live) (λ j u _ there. h.few j u there);
@@ -76,7 +76,7 @@ takes s id number v h has may free =
 
 pub misses : (s : CoreState) (id number : ℕ) (v : View) → Lawful s → HasReader s id number v → Lawful (miss_turn s id v)
 misses s id number v h has =
-    let here = has.here in let live = is_live number v has.reader in let w : View = was_refused v in
+    let here = has.here in let live = is_live number v has.reader in let w : View = was_refused s.turn v in
     let turn = h.turn.each id v here live in let writes = h.owners.each id v here live in let places = h.places id v here live in
     record {
       pins = λ slot inside. h.pins slot inside ∙ sym (total_kept (pins_at slot) s.views id v w here refl);

@@ -129,6 +129,7 @@ spent = record {
   pins = 0;
   taken = 0;
   refused = 0;
+  holder = None;
 }
 
 -- P of each seat, but for those that are spent

@@ -1,6 +1,6 @@
 -- When a state is lawful. Each part stands alone and can be read alone. Each is one of three kinds: a sum over all
 -- seats, a fact of each seat against what is shared, or a fact of what is shared alone.
-use Rattle.std.specs.Prelude.{◌≡◌, ℕ, ◌+◌, ◌*◌, ◌≤◌, ◌<◌, true, false, ◌==◌, if◌then◌else◌, is_some, Option, Some, None, List, [], ◌∷◌, length, take, All}
+use Rattle.std.specs.Prelude.{Bool, ◌≡◌, ℕ, ◌+◌, ◌*◌, ◌≤◌, ◌<◌, true, false, ◌==◌, if◌then◌else◌, is_some, Option, Some, None, List, [], ◌∷◌, length, take, All}
 use mathlib.Core.Option.{some}
 use lib.ListN.{get_elem?}
 use Rattle.pin_book.specs.declared.write.Write.{Write}
@@ -92,9 +92,9 @@ pub record WasFront (slots : ℕ) (journal : List Write) (floor seen : ℕ) (e :
   pub late : floor ≤ e.position
   pub told : e.position ≤ seen
 
--- the slot was the front's after some number of writes, not before the floor
-abbrev pub WasFrontOnce : ℕ → List Write → ℕ → ℕ → Type 0
-WasFrontOnce slots journal floor slot = (w : ℕ) × (floor ≤ w) × (w ≤ length journal) × (slot ≡ front_slot slots (take w journal))
+-- the slot was the front's after some number of writes, not before the floor and not after what the seat has seen
+abbrev pub WasFrontOnce : ℕ → List Write → ℕ → ℕ → ℕ → Type 0
+WasFrontOnce slots journal floor seen slot = (w : ℕ) × (floor ≤ w) × (w ≤ seen) × (slot ≡ front_slot slots (take w journal))
 
 -- each entry's slot was the front's at its position, and each slot that a claim found pinned was the front's once; all
 -- seats know one floor, and have seen at least as many writes
@@ -102,7 +102,7 @@ pub record KnowsPlaces (slots : ℕ) (journal : List Write) (floor : ℕ) (v : V
   pub same : v.floor ≡ floor
   pub above : floor ≤ length v.seen
   pub entries : All (WasFront slots journal floor (length v.seen)) v.entries
-  pub pinned : All (WasFrontOnce slots journal floor) v.pinned
+  pub pinned : All (WasFrontOnce slots journal floor (length v.seen)) v.pinned
 
 -- ---- (g) the room ----
 
@@ -144,3 +144,10 @@ PlacesAtHome IsAtHome s =
 -- the book is at home with this journal where no seat has the turn
 abbrev pub BookAtHome : (List Write → Type 0) → CoreState → Type 0
 BookAtHome IsAtHome s = s.turn ≡ None → IsAtHome s.journal
+
+-- what a test of places, and one of journals, lets pass
+abbrev pub Passes : (ℕ → ℕ → ℕ → Bool) → ℕ → ℕ → ℕ → Type 0
+Passes test slot reader number = test slot reader number ≡ true
+
+abbrev pub JournalPasses : (List Write → Bool) → List Write → Type 0
+JournalPasses test journal = test journal ≡ true

@@ -31,6 +31,10 @@ pub record HasHandle (s : CoreState) (id number : ℕ) (v : View) (e : Entry) : 
   pub among : Contains v.entries e
   pub held : e.held ≡ true
 
+-- some seat is that of the reader of this number
+abbrev pub IsOut : CoreState → ℕ → Type 0
+IsOut s number = (id : ℕ) × (v : View) × HasReader s id number v
+
 -- ---- 1: load the front word ----
 -- Always allowed.
 
@@ -88,9 +92,9 @@ pub record MayTakeTurn (v : View) : Type 0 where
 abbrev pub got_turn : List Write → View → View
 got_turn journal v = record v { turn = true; seen = journal; pinned = []; taken = v.taken + 1 }
 
--- it knows that another reader has the turn
-abbrev pub was_refused : View → View
-was_refused v = record v { refused = v.refused + 1 }
+-- it knows that another reader has the turn, and which
+abbrev pub was_refused : Option ℕ → View → View
+was_refused turn v = record v { refused = v.refused + 1; holder = turn }
 
 -- where nobody has the turn
 abbrev pub take_turn : CoreState → ℕ → ℕ → View → CoreState
@@ -98,7 +102,7 @@ take_turn s id number v = record (with_view s id (got_turn s.journal v)) { turn 
 
 -- where somebody has it
 abbrev pub miss_turn : CoreState → ℕ → View → CoreState
-miss_turn s id v = with_view s id (was_refused v)
+miss_turn s id v = with_view s id (was_refused s.turn v)
 
 abbrev pub exchange_turn : CoreState → ℕ → ℕ → View → CoreState
 exchange_turn s id number v = if is_some s.turn then miss_turn s id v else take_turn s id number v
@@ -224,6 +228,7 @@ split_off readers number writes v = record {
   pins = 0;
   taken = 0;
   refused = 0;
+  holder = None;
 }
 
 abbrev pub split : CoreState → ℕ → View → ℕ → ℕ → CoreState

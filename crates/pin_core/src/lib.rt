@@ -13,6 +13,7 @@
 #![tactic(auto)]
 
 mod entry;
+mod home_laws;
 mod packing_laws;
 mod place_laws;
 mod reader_laws;
@@ -21,6 +22,9 @@ mod step_laws;
 mod view;
 
 pub use entry::{Entry, SlotWord};
+pub use home_laws::{
+    other_places_stay_at_home, places_come_home, places_stay_at_home, the_book_comes_home,
+};
 pub use packing_laws::{packed_words_are_read_back, places_stand_apart, words_show_small_numbers};
 pub use place_laws::{
     a_claimed_slot_has_all_its_places, a_first_handle_finds_its_place_at_home,
@@ -28,9 +32,10 @@ pub use place_laws::{
 };
 pub use reader_laws::{
     a_claim_meets_the_kept_number, a_handle_keeps_its_slot, a_held_slot_is_not_claimed,
-    a_stray_tells_of_more_writes, allowances_have_room, each_write_stands_once,
-    nothing_seen_is_forgotten, seen_journals_are_parts_of_one, the_floor_moves_under_no_reader,
-    the_turn_has_one_holder,
+    a_main_with_all_numbers_has_all_writes, a_refused_turn_names_another_reader,
+    a_slot_found_pinned_was_the_front_s, a_stray_tells_of_more_writes, allowances_have_room,
+    each_write_stands_once, nothing_seen_is_forgotten, seen_journals_are_parts_of_one,
+    splits_and_joins_keep_allowances, the_floor_moves_under_no_reader, the_turn_has_one_holder,
 };
 pub use run_laws::{
     lawful_states_stay_lawful, no_slot_is_claimed_under_a_handle, no_stray_stands_beside_a_handle,

@@ -1,6 +1,6 @@
 //! What a lawful state promises each reader, in the reader's own words.
 
-ghost use Rattle.std.specs.Prelude.{◌≡◌, ◌≢◌, ℕ, ◌+◌, ◌<◌, ◌≤◌, Some, None, length, take, slice_get, true, false};
+ghost use Rattle.std.specs.Prelude.{◌≡◌, ◌≢◌, ℕ, ◌+◌, ◌<◌, ◌≤◌, Some, None, length, take, slice_get, true, false, Contains};
 ghost use mathlib.Core.Option.{some};
 ghost use lib.ListN.{get_elem?};
 ghost use Rattle.pin_core.specs.declared.entry.Entry.{Entry};
@@ -9,9 +9,9 @@ ghost use Rattle.pin_core.specs.declared.view.Role.TheVariants as roles;
 ghost use Rattle.pin_book.specs.declared.write.Write.{Write};
 ghost use Rattle.pin_book.specs.Sequence.{writes_by};
 ghost use Rattle.pin_book.specs.Replay.{front_number, front_slot, kept_number};
-ghost use Rattle.pin_core.specs.Core.{CoreState, number_at, count_at};
-ghost use Rattle.pin_core.specs.Lawful.{Lawful, entry_number};
-ghost use Rattle.pin_core.specs.Step.{HasReader, HasEntry, HasHandle, MayClaim, MaySplit, split};
+ghost use Rattle.pin_core.specs.Core.{CoreState, number_at, count_at, total, allowance_of, with_view};
+ghost use Rattle.pin_core.specs.Lawful.{Lawful, WasFrontOnce, entry_number};
+ghost use Rattle.pin_core.specs.Step.{HasReader, HasEntry, HasHandle, IsOut, MayTakeTurn, MayClaim, MaySplit, MayJoin, exchange_turn, split, join};
 ghost use Rattle.pin_core.specs.Run.{Moves};
 
 /// While a reader holds a handle, its slot keeps its number after each position from the handle's to the last, and so
@@ -49,6 +49,40 @@ pub fn the_turn_has_one_holder()
     ensures named { (s : CoreState) (id number : ℕ) (v : View) → Lawful s → HasReader s id number v → v.turn ≡ true
         → s.turn ≡ Some number }
     ensures nobody { (s : CoreState) (id : ℕ) (v : View) → Lawful s → get_elem? s.views id ≡ some v → s.turn ≡ None → v.turn ≡ false }
+{}
+
+/// A try for the turn that finds it taken tells another reader that is out, and the seat then knows which. With one
+/// reader there is no such try.
+pub fn a_refused_turn_names_another_reader()
+    ensures other { (s : CoreState) (id number holder : ℕ) (v : View) → Lawful s → HasReader s id number v → MayTakeTurn v
+        → s.turn ≡ Some holder → (holder ≢ number) × (holder < s.readers) × IsOut s holder }
+    ensures told { (s : CoreState) (id number holder : ℕ) (v : View) → s.turn ≡ Some holder
+        → exchange_turn s id number v ≡ with_view s id (record v { refused = v.refused + 1; holder = Some holder }) }
+    ensures alone { (s : CoreState) (id number : ℕ) (v : View) → Lawful s → HasReader s id number v → MayTakeTurn v
+        → s.readers ≡ 1 → s.turn ≡ None }
+{}
+
+/// Each slot that a reader's claims found pinned was the front's after some number of writes that the reader has seen,
+/// from its floor on.
+pub fn a_slot_found_pinned_was_the_front_s()
+    ensures { (s : CoreState) (id : ℕ) (v : View) (slot : ℕ) → Lawful s → get_elem? s.views id ≡ some v → v.role ≢ roles.Spent
+        → Contains v.pinned slot → WasFrontOnce s.slots v.seen v.floor (length v.seen) slot }
+{}
+
+/// A main that has all numbers, since no reader is out, has seen the whole journal, and has all of its writes as its own.
+pub fn a_main_with_all_numbers_has_all_writes()
+    ensures own { (s : CoreState) (id : ℕ) (v : View) (number : ℕ) → Lawful s → get_elem? s.views id ≡ some v → v.role ≡ roles.Main
+        → length v.numbers ≡ s.readers → number < s.readers → writes_by number v.own ≡ writes_by number s.journal }
+    ensures seen { (s : CoreState) (id : ℕ) (v : View) → Lawful s → get_elem? s.views id ≡ some v → v.role ≡ roles.Main
+        → length v.numbers ≡ s.readers → v.seen ≡ s.journal }
+{}
+
+/// A split and a join move allowances from seat to seat, and make none.
+pub fn splits_and_joins_keep_allowances()
+    ensures split { (s : CoreState) (id number writes : ℕ) (v : View) → get_elem? s.views id ≡ some v → MaySplit number writes v
+        → total allowance_of (split s id v number writes).views ≡ total allowance_of s.views }
+    ensures join { (s : CoreState) (id other : ℕ) (v w : View) → get_elem? s.views id ≡ some v → get_elem? s.views other ≡ some w
+        → MayJoin v w → total allowance_of (join s id v other w).views ≡ total allowance_of s.views }
 {}
 
 /// What each seat has seen is the front part of one journal, so of two seen journals the shorter is the front part of

@@ -42,4 +42,6 @@ pub struct View {
     pub taken: u64,
     /// How often it has found the turn taken.
     pub refused: u64,
+    /// The reader that had the turn when it found it taken last.
+    pub holder: Option<u32>,
 }

@@ -192,7 +192,7 @@ module _ (made room : ℕ) (s : CoreState) (played : IsPlayed made room s) (read
 
   pub misses_played : is_some s.turn ≡ true → IsPlayed (made + 1) room (exchange_turn s (seat_of reader) reader v)
   misses_played some_holder = subst (λ t. IsPlayed (made + 1) room t) (sym (cond-true (is_some s.turn) (miss_turn s (suc reader) v) (take_turn s (suc reader) reader v) some_holder))
-      (changed_played made room s played reader inside s.front s.words s.turn s.journal (was_refused v) (misses s (suc reader) reader v played.lawful has) has.reader record {
+      (changed_played made room s played reader inside s.front s.words s.turn s.journal (was_refused s.turn v) (misses s (suc reader) reader v played.lawful has) has.reader record {
         loads = omega (arith, amounts.loads);
         pins = omega (arith, amounts.pins);
         taken = omega (arith, amounts.taken);
@@ -203,11 +203,11 @@ module _ (made room : ℕ) (s : CoreState) (played : IsPlayed made room s) (read
   pub misses_told : is_some s.turn ≡ true → with_reader p reader (record (reader_at p reader) { refused = (reader_at p reader).refused + 1 })
       ≡ progress_of room (exchange_turn s (seat_of reader) reader v)
   misses_told some_holder =
-      let claimed = claimed_kept made room s played reader inside s.front s.words s.turn s.journal (was_refused v) refl in
+      let claimed = claimed_kept made room s played reader inside s.front s.words s.turn s.journal (was_refused s.turn v) refl in
       let start : now s.words s.turn s.journal (claimed_by s s.turn) (set p.core.readers reader (record (reader_at p reader) { refused = (reader_at p reader).refused + 1 })) p.fronts p.listed
-      ≡ now s.words s.turn s.journal (claimed_by (miss_turn s (suc reader) v) s.turn) (set p.core.readers reader (reader_of (was_refused v))) (set p.fronts reader (seen_front s.slots v)) p.listed =
+      ≡ now s.words s.turn s.journal (claimed_by (miss_turn s (suc reader) v) s.turn) (set p.core.readers reader (reader_of (was_refused s.turn v))) (set p.fronts reader (seen_front s.slots v)) p.listed =
       λ i. now s.words s.turn s.journal (claimed i) (set p.core.readers reader (record (told i) { refused = (told i).refused + 1 })) (same_fronts i) p.listed in
-      start ∙ sym (changed_told made room s played reader inside s.front s.words s.turn s.journal (was_refused v))
+      start ∙ sym (changed_told made room s played reader inside s.front s.words s.turn s.journal (was_refused s.turn v))
       ∙ ap (progress_of room) (sym (cond-true (is_some s.turn) (miss_turn s (suc reader) v) (take_turn s (suc reader) reader v) some_holder))
 
   module _ (free : s.turn ≡ None) where

@@ -1,1 +1,3 @@
 pub mod CarriedLemmas
+pub mod OpeningLemmas
+pub mod NumberLemmas

@@ -7,12 +7,14 @@ ghost use Rattle.pin_core.specs.Core.{times};
 ghost use Rattle.pin_table.specs.Carried.{slots_of, Exchanges};
 ghost use Rattle.pin_table.specs.declared.exchange.TheConstants.{MOST_CARRIED};
 
+use crate::shelf::SHELF_COPIES;
 use arrayvec::ArrayVec;
 use atomic_table::{Seat, Shared, TableRule};
+use pin_book::READER_NUMBERS;
 use std::marker::Model;
 
 /// The most slots of the base that a seat carries: a place for each handle, the book, and the places of one slot.
-pub const MOST_CARRIED: usize = 8 + 1 + 16;
+pub const MOST_CARRIED: usize = SHELF_COPIES + 1 + READER_NUMBERS;
 
 /// The slots of the base that a seat carries, the head first. Contracts see their list.
 #[derive(Drop)]

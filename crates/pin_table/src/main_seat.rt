@@ -1,0 +1,70 @@
+//! The main: what the thread has that made a table.
+ghost use Rattle.std.specs.Prelude.{◌≡◌, ℕ, ◌<◌, ◌≤◌, ◌↔◌, length, slice_index_or, false, IsTrue};
+ghost use Rattle.pin_book.specs.declared.limits.TheConstants.{READER_NUMBERS};
+ghost use Rattle.pin_core.specs.Core.{has_number};
+ghost use Rattle.pin_core.specs.declared.view.Role.TheVariants as roles;
+ghost use Rattle.pin_table.specs.Position.{IsAfter, slots_of_plan};
+
+use crate::position::Position;
+use crate::rule::Chair;
+use pin_book::{Payload, READER_NUMBERS};
+
+/// What the thread has that made a table. It has the numbers of the readers that aren't out, and the writes that may
+/// still be handed out.
+#[derive(Drop)]
+pub struct Main<P: Payload> {
+    pub(crate) seat: Chair<P>,
+    // Of each reader number whether the main has it.
+    has: [bool; READER_NUMBERS],
+    allowance: u32,
+    // The front that the main has seen last.
+    seen: Position,
+    pub ghost role: { seat.me.0.core.role ≡ roles.Main },
+    pub ghost carries_none: { length seat.me.1 ≡ 0 },
+    ghost numbers: { (number : ℕ) → (0 < has_number number seat.me.0.core) ↔ IsTrue (slice_index_or has number false) },
+    ghost allowed: { allowance ≡ seat.me.0.core.allowance },
+    ghost position: { IsAfter (slots_of_plan seat.me.0.plan) seat.me.0.core.seen seen },
+}
+
+impl<P: Payload> Main<P> {
+    ghost use Rattle.pin_core.specs.Step.{main_at_first};
+    ghost use Rattle.pin_table.specs.Main.{main_view};
+
+    /// Makes the main of a new table, whose first seat this is.
+    pub(crate) fn first(seat: Chair<P>, readers: u32, writes: u32) -> Self
+        requires numbers { readers ≤ READER_NUMBERS }
+        requires core { seat.me.0.core ≡ main_at_first readers writes }
+        requires carried { length seat.me.1 ≡ 0 }
+        ensures { result.seat ≡ seat }
+    {
+        Main {
+            seat,
+            has: first_numbers(readers),
+            allowance: writes,
+            seen: Position {
+                w: 0,
+                n: 1,
+                slot: 0,
+            },
+        }
+    }
+
+    /// How many writes may still be made or handed out.
+    pub fn allowance(&self) -> u32
+        ensures { result ≡ (main_view self.now).allowance }
+    {
+        self.allowance
+    }
+}
+
+/// The numbers that the main of a new table has: all.
+fn first_numbers(readers: u32) -> [bool; READER_NUMBERS]
+    requires { readers ≤ READER_NUMBERS }
+    ensures { (number : ℕ) → IsTrue (slice_index_or result number false) ↔ (number < readers) }
+{
+    let mut has = [false; READER_NUMBERS];
+    for number in 0..readers as usize {
+        has[number] = true;
+    }
+    has
+}
