@@ -5,3 +5,4 @@ pub mod SourceLemmas
 pub mod OldStrays
 pub mod StepLemmas
 pub mod FrontLoads
+pub mod PinMoves

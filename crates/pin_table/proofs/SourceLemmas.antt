@@ -46,3 +46,7 @@ source_pushed slots n src slot journal write some_slot is push next =
     ∙ get_or-append_right (sources journal) (map (λ (e : Edition). e.src) (pushes (write ∷ []))) (length (sources journal)) (n - 1) 0 refl (omega arith)
     ∙ (let at : n - 1 - length (sources journal) ≡ 0 = omega arith in
     ap (λ (i : ℕ). get_or (map (λ (e : Edition). e.src) (pushes (write ∷ []))) i 0) at ∙ ap (λ c. get_or (map (λ (e : Edition). e.src) (pushed_by c ++ [])) 0 0) push)
+
+-- the front has a number from 1 on
+pub front_some : (slots : ℕ) (journal : List Write) → 0 < slots → replays slots journal ≡ true → 0 < front_number slots journal
+front_some slots journal some_slot is = let many = source_count slots journal some_slot is in omega arith
