@@ -1,14 +1,14 @@
 -- A pin that is added or taken off keeps the rule, and tells what the slot's word shows.
-use Rattle.std.proofs.Common.{◌≡◌, ◌≢◌, ℕ, zero, suc, ◌+◌, ◌-◌, ◌*◌, ◌/◌, ◌%◌, ◌^◌, ◌<◌, ◌≤◌, List, [], ◌∷◌, ◌++◌, length, take, set, refl, sym, ap, ◌∙◌, subst, ⊎_elim, arith, mod-eq_of_lt, length-set, Bool, true, false, ◌==◌, ◌&&◌, eq-eqb, ne_eqb, Some}
+use Rattle.std.proofs.Common.{◌≡◌, ◌≢◌, ℕ, zero, suc, ◌+◌, ◌-◌, ◌*◌, ◌/◌, ◌%◌, ◌^◌, ◌<◌, ◌≤◌, List, [], ◌∷◌, ◌++◌, length, take, set, refl, sym, ap, ◌∙◌, subst, ⊎_elim, arith, mod-eq_of_lt, length-set, Bool, true, false, cond, ◌==◌, ◌&&◌, eq-eqb, ne_eqb, Some}
 use Rattle.std.specs.Prelude.{slice_index, slice_get}
 use Rattle.std.specs.List.{Contains}
-use Rattle.std.proofs.lemmas.Bool.{cases_eq, cases_Bool, cases_lt, and_parts, eqb-true}
-use Rattle.std.proofs.lemmas.Option.{same_Some}
+use Rattle.std.proofs.lemmas.Bool.{cases_eq, cases_Bool, and_parts, eqb-true, both_ways}
+use Rattle.std.proofs.lemmas.Option.{slice_get_within, get_or_from_slice_get}
 use Rattle.std.proofs.lemmas.List.Elements.{All-contains}
 use mathlib.Core.Option as maybe
 use mathlib.Core.Option.{some}
 use lib.ListN.{get_elem?}
-use Rattle.atomic_table.specs.Table.{State, Me, keeps, takes, gives, Allows, rest}
+use Rattle.atomic_table.specs.Table.{State, Me, keeps, takes, gives, put_back}
 use Rattle.atomic_table.proofs.Lists.{set_else, set_here}
 use Rattle.pin_book.specs.declared.write.Write.{Write}
 use Rattle.pin_book.specs.Replay.{front_number, front_slot, kept_number, replays}
@@ -24,11 +24,11 @@ use Rattle.pin_core.specs.Packing.{packed_slot, place, book_place}
 use Rattle.pin_core.proofs.Packing.{number_small, count_small, slot_back, apart, before_book}
 use Rattle.pin_core.proofs.Places.{away_iff, first_handle}
 use Rattle.pin_core.proofs.Strays.{beside_handle}
-use Rattle.pin_core.proofs.Readers.{part_of_journal}
+use Rattle.pin_core.proofs.Readers.{part_of_journal, counted, shown as shown_number}
 use Rattle.pin_core.proofs.Seats.{is_live}
 use Rattle.pin_core.proofs.Splits.{inside_of}
 use Rattle.pin_core.proofs.Stores.{has_own}
-use Rattle.pin_core.proofs.Sums.{total-append, total_some}
+use Rattle.pin_core.proofs.Sums.{total-append, total-remove, total_kept}
 use Rattle.pin_core.proofs.AtHome.{pin_home, take_home}
 use Rattle.pin_core.proofs.Runs.{moves_keep}
 use Rattle.pin_table.specs.declared.cell.Cell.{Cell}
@@ -40,7 +40,7 @@ use Rattle.pin_table.specs.Sources.{source_of}
 use Rattle.pin_table.specs.Places.{IsStocked, IsPlaceAt, StandsAtHome}
 use Rattle.pin_table.specs.Rule.{Kept}
 use Rattle.pin_table.specs.Plays.{ForPlan, TakesPlace, MayGivePlace, PinAdded, PinTaken}
-use Rattle.pin_table.proofs.SourceLemmas.{source_kept, front_some}
+use Rattle.pin_table.proofs.SourceLemmas.{source_kept, front_some, front_rises}
 use Rattle.pin_table.proofs.StepLemmas.{slot_written, Known, known, after_step, set_at, Steps}
 
 -- where a reader has a handle at the slot, it has an entry that says so
@@ -224,3 +224,131 @@ module _ {P H : Type 0} (home : P → H) (source : P → ℕ) (name_of : H → �
           },
         ))
         (cases_eq (number_at core.words slot) (front_number core.slots v.seen))
+
+  -- ---- a pin is taken off ----
+
+  module _ (at : ℕ) (e : Entry) (may : MayTake at e v)
+      (give : e.held ≡ true → held_at e.slot v ≡ 1 → MayGivePlace home source plan_here v.seen (entry_number core.slots v.seen e) (place e.slot number) m.1) where
+    abbrev t' : CoreState
+    t' = take_pin core id v at e
+
+    abbrev w' : Sitting P
+    w' = knowing (unpinned at v) m.0
+
+    among : Contains v.entries e
+    among = (at, slice_get_within v.entries at e may.there, get_or_from_slice_get v.entries at e e may.there)
+
+    was : WasFront core.slots core.journal core.floor (length v.seen) e
+    was = All-contains (WasFront core.slots core.journal core.floor (length v.seen)) v.entries e (k.lawful.places id v k.has.here (is_live number v reader)).entries among
+
+    inside' : e.slot < core.slots
+    inside' = subst (λ n. n < core.slots) (sym was.front) (front_slot_inside core.slots (take e.position core.journal) k.some (replays_take core.slots core.journal e.position k.lawful.follows.replay))
+
+    less : (found e.slot inside' + (2 ^ 64 - 1)) % 2 ^ 64 ≡ packed_slot record { number = shown e.slot inside'; count = count e.slot inside' - 1 }
+    less = let is = word_is e.slot inside' in let few = small e.slot inside' in let pins = counted core k.lawful id number v k.has e among in omega arith
+
+    unpinned_rule : (homes : List (maybe.Option (Cell P H))) → StandsAtHome home source name_of plan homes t'
+        → Kept home source name_of plan record { words = set s.words (slot_word e.slot) ((found e.slot inside' + (2 ^ 64 - 1)) % 2 ^ 64); homes = homes; views = set s.views id w' }
+    unpinned_rule homes at_home = after_step home source name_of plan s h id w' t' (set s.words (slot_word e.slot) ((found e.slot inside' + (2 ^ 64 - 1)) % 2 ^ 64)) homes (takes_off id number v at e k.has may) refl
+        (slot_written s.words core t' e.slot ((found e.slot inside' + (2 ^ 64 - 1)) % 2 ^ 64) record { number = number_at core.words e.slot; count = count_at core.words e.slot - 1 } h.words inside' k.lawful.follows.wide less refl refl refl refl) at_home
+
+    -- the entry counts among the handles at its slot where it is one
+    counts : held_at e.slot (unpinned at v) + one_if ((e.slot == e.slot) && e.held) ≡ held_at e.slot v
+    counts = ap (λ (x : Entry). held_at e.slot (unpinned at v) + one_if ((x.slot == e.slot) && x.held)) (sym (get_or_from_slice_get v.entries at e e may.there))
+        ∙ total-remove (λ (x : Entry). one_if ((x.slot == e.slot) && x.held)) v.entries at e (slice_get_within v.entries at e may.there)
+
+    counts_one : e.held ≡ true → held_at e.slot (unpinned at v) + 1 ≡ held_at e.slot v
+    counts_one held = let one : one_if ((e.slot == e.slot) && e.held) ≡ 1 = (λ i. one_if (eq-eqb e.slot e.slot refl i && held i)) in let sum = counts in omega arith
+
+    here' : HasReader t' id number w'.core
+    here' = record { here = set_at core.views id v w'.core k.has.here; reader = reader }
+
+    lawful' : Lawful t'
+    lawful' = moves_keep core t' k.lawful (takes_off id number v at e k.has may)
+
+    number_is : e.held ≡ true → number_at core.words e.slot ≡ entry_number core.slots v.seen e
+    number_is held = shown_number core k.lawful id number v k.has e among held
+
+    told : e.held ≡ true → found e.slot inside' / 2 ^ 32 ≡ entry_number core.slots v.seen e
+    told held = shows e.slot inside' ∙ number_is held
+
+    -- no place is given back
+    keeps_all : (total (away e.slot number) t'.views ≡ 0 → total (away e.slot number) core.views ≡ 0) → StandsAtHome home source name_of plan s.homes t'
+    keeps_all back = record {
+      deep = h.homes.deep;
+      places = take_home (λ a r n. IsPlaceAt home source s.homes (home plan.first) core.journal (place a r) n) (λ a r n. IsPlaceAt home source s.homes (home plan.first) core.journal (place a r) n) core id number at v e k.has may
+          (λ a r n none there. there) (λ none. h.homes.places e.slot number inside' reader_inside (back none)) h.homes.places;
+      book = h.homes.book;
+    }
+
+    -- the reader's own place is given back
+    module _ (held : e.held ≡ true) (one : held_at e.slot v ≡ 1) where
+      abbrev p : ℕ
+      p = place e.slot number
+
+      abbrev cell : Cell P H
+      cell = (give held one).cell
+
+      abbrev homes'' : List (maybe.Option (Cell P H))
+      homes'' = set s.homes p (some cell)
+
+      was_away : total (away e.slot number) core.views ≡ 0 → ⊥
+      was_away none = let bare = ((away_iff core id number e.slot v k.lawful k.has).0 none).0 in omega arith
+
+      below : (p < book_place core.slots) × (p < length s.homes)
+      below = let few = h.sizes in let numbers = few.few_readers in let readers = k.readers in let mine = reader_inside in let low = before_book core.slots e.slot number inside' (omega arith) in
+          let slots = k.slots in let deep = h.homes.deep in (low, omega arith)
+
+      stocked_back : IsStocked home source (home plan.first) (source_of core.journal (number_at core.words e.slot)) cell
+      stocked_back =
+          let part = replays_take core.slots v.seen e.position seen_replays in
+          let kept = source_kept core.slots (entry_number core.slots v.seen e) core.journal v.seen k.some k.lawful.follows.replay seen_part
+          (front_some core.slots (take e.position v.seen) k.some part) (front_rises core.slots e.position v.seen k.some seen_replays) in
+          subst (λ n. IsStocked home source (home plan.first) n cell) (sym (ap (source_of core.journal) (number_is held) ∙ kept)) (give held one).stocked
+
+      gives_place : StandsAtHome home source name_of plan homes'' t'
+      gives_place = record {
+        deep = length-set s.homes p (some cell) ∙ h.homes.deep;
+        places = take_home (λ a r n. (a < core.slots) × (r < core.readers) × IsPlaceAt home source s.homes (home plan.first) core.journal (place a r) n)
+            (λ a r n. IsPlaceAt home source homes'' (home plan.first) core.journal (place a r) n) core id number at v e k.has may
+            (λ a r n none there. let few = h.sizes in let numbers = few.few_readers in let readers = k.readers in let low = there.1 in let mine = reader_inside in let old = there.2 in record {
+              cell = old.cell;
+              here = set_else s.homes p (place a r) (some cell)
+                  (λ same. let both = apart a e.slot r number (omega arith) (omega arith) same in was_away (subst (λ (x : ℕ × ℕ). total (away x.0 x.1) core.views ≡ 0) (λ i. (both.0 i, both.1 i)) none)) ∙ old.here;
+              stocked = old.stocked;
+            })
+            (λ none. record { cell = cell; here = set_here s.homes p (some cell) below.1; stocked = λ _. stocked_back })
+            (λ a r low mine none. (low, mine, h.homes.places a r low mine none));
+        book = λ free. set_else s.homes p (book_place plan.slots) (some cell) (λ same. let low = below.0 in let slots = k.slots in omega arith) ∙ h.homes.book free;
+      }
+
+    pub takes_at : Steps (Kept home source name_of plan) s id m (slot_word e.slot) (λ n. (n + (2 ^ 64 - 1)) % 2 ^ 64) (λ n m'. PinTaken home source plan_here at e m n m')
+    takes_at = ⊎_elim
+        (λ (held : e.held ≡ true). ⊎_elim
+        (λ (one : held_at e.slot v ≡ 1). (
+          w',
+          gives,
+          tt,
+          subst (λ hs. Kept home source name_of plan record { words = set s.words (slot_word e.slot) ((found e.slot inside' + (2 ^ 64 - 1)) % 2 ^ 64); homes = hs; views = set s.views id w' }) (sym (ap (put_back s.homes) (give held one).is))
+              (unpinned_rule (homes'' held one) (gives_place held one)),
+          record { view = refl; shown = told; last = λ _ _. refl; further = λ _ more. absurd (omega arith); stray = λ is. absurd (both_ways e.held is held) },
+        ))
+        (λ (more : held_at e.slot v ≢ 1). (
+          w',
+          keeps,
+          tt,
+          unpinned_rule s.homes (keeps_all (λ none. let bare = ((away_iff t' id number e.slot w'.core lawful' here').0 none).0 in let sum = counts_one held in absurd (more (omega arith)))),
+          record { view = refl; shown = told; last = λ _ is. absurd (more is); further = λ _ _. refl; stray = λ is. absurd (both_ways e.held is held) },
+        ))
+        (cases_eq (held_at e.slot v) 1))
+        (λ (stray : e.held ≡ false). (
+          w',
+          keeps,
+          tt,
+          unpinned_rule s.homes (keeps_all (λ none.
+              let zero : one_if ((e.slot == e.slot) && e.held) ≡ 0 = (λ i. one_if (eq-eqb e.slot e.slot refl i && stray i)) in let sum = counts in
+              let same : held_at e.slot (unpinned at v) ≡ held_at e.slot v = omega arith in
+              sym (total_kept (away e.slot number) core.views id v w'.core k.has.here (ap (λ n. has_claimed e.slot v + cond (has_number number v == 0) 0 n) same)) ∙ none)),
+          record { view = refl; shown = told; last = λ held _. absurd (both_ways e.held stray held); further = λ held _. absurd (both_ways e.held stray held); stray = λ _. refl },
+        ))
+        (cases_Bool e.held)
