@@ -3,9 +3,11 @@
 use Rattle.std.specs.Prelude.{◌≡◌, ◌≢◌, ℕ, ◌+◌, ◌/◌, ◌%◌, ◌^◌, ◌<◌, ◌≤◌, true, false, Some, List, ◌∷◌, length, take, Contains}
 use Rattle.atomic_table.specs.Table.{Me, rest}
 use Rattle.pin_book.specs.declared.write.Write.{Write}
+use Rattle.pin_book.specs.Sequence.{writes_by}
 use Rattle.pin_book.specs.Replay.{front_number, front_slot, kept_number, replays}
 use Rattle.pin_core.specs.declared.entry.Entry.{Entry}
-use Rattle.pin_core.specs.Core.{held_at}
+use Rattle.pin_core.specs.declared.view.View.{View}
+use Rattle.pin_core.specs.Core.{IsReader, held_at}
 use Rattle.pin_core.specs.Lawful.{entry_number}
 use Rattle.pin_core.specs.Step.{loaded, pinned, unpinned}
 use Rattle.pin_core.specs.Packing.{place}
@@ -16,25 +18,31 @@ use Rattle.pin_table.specs.Seat.{knowing}
 use Rattle.pin_table.specs.Sources.{source_of}
 use Rattle.pin_table.specs.Places.{IsStocked}
 
--- the fact of the plan of the seat's table
-abbrev pub ForPlan : {P : Type 0} → Sitting P → (Plan P → Type 0) → Type 0
-ForPlan {P} v fact = (plan : Plan P) → v.plan ≡ Some plan → fact plan
+-- the fact of how the seat's table was made, and of the seat's reader number
+abbrev pub ForReader : {P : Type 0} → Sitting P → (Plan P → ℕ → Type 0) → Type 0
+ForReader {P} v fact = (plan : Plan P) (number : ℕ) → v.plan ≡ Some plan → IsReader number v.core → fact plan number
+
+-- What holds of the journal at a step of this reader: it goes on from what the reader has seen, it replays, and has room
+-- for what the reader may still write. The reader's own writes are its own part of it. Each slot where the reader has a
+-- handle keeps the handle's number after it, and each of its strays is older than the last write.
+pub record GoesOn (slots room number : ℕ) (v : View) (journal : List Write) : Type 0 where
+  pub grows : take (length v.seen) journal ≡ v.seen
+  pub replay : replays slots journal ≡ true
+  pub fits : length journal + v.allowance ≤ room
+  pub own : writes_by number journal ≡ v.own
+  pub handles : (e : Entry) → Contains v.entries e → e.held ≡ true → kept_number slots journal e.slot ≡ entry_number slots journal e
+  pub strays : (e : Entry) → Contains v.entries e → e.held ≡ false → e.position < length journal
 
 module _ {P H : Type 0} where
-  -- The front word that was loaded shows the front after a journal, which the seat has seen then. The journal goes on from
-  -- what the seat had seen, and after it each slot where the reader has a handle still keeps the handle's number.
-  pub record FrontLoaded (plan : Plan P) (m : Me (Cell P H) (Sitting P)) (found : ℕ) (m' : Me (Cell P H) (Sitting P)) : Type 0 where
+  -- the front word that was loaded shows the front after a journal, which the seat has seen then
+  pub record FrontLoaded (plan : Plan P) (number : ℕ) (m : Me (Cell P H) (Sitting P)) (found : ℕ) (m' : Me (Cell P H) (Sitting P)) : Type 0 where
     pub journal : List Write
     pub seat : m' ≡ (knowing (loaded journal m.0.core) m.0, m.1)
+    pub goes_on : GoesOn plan.slots plan.room number m.0.core journal
     pub w : found / 2 ^ 32 ≡ length journal
     pub n : found / 2 ^ 6 % 2 ^ 26 ≡ front_number plan.slots journal
     pub slot : found % 2 ^ 6 ≡ front_slot plan.slots journal
     pub inside : front_slot plan.slots journal < plan.slots
-    pub room : length journal ≤ plan.room
-    pub replay : replays plan.slots journal ≡ true
-    pub grows : take (length m.0.core.seen) journal ≡ m.0.core.seen
-    pub handles : (e : Entry) → Contains m.0.core.entries e → e.held ≡ true → kept_number plan.slots journal e.slot ≡ entry_number plan.slots journal e
-    pub strays : (e : Entry) → Contains m.0.core.entries e → e.held ≡ false → e.position < length journal
 
   module _ (home : P → H) (source : P → ℕ) where
     -- the seat has taken a place, which is stocked with the version of this number
