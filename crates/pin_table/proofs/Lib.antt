@@ -6,3 +6,4 @@ pub mod OldStrays
 pub mod StepLemmas
 pub mod FrontLoads
 pub mod PinMoves
+pub mod TurnMoves

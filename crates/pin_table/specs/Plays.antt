@@ -1,6 +1,6 @@
 -- What each atomic step tells the seat that makes it: what the word that it found shows, what the seat knows afterwards,
 -- and which places, or the book, it has then. What it knows is what pin_core's step makes of its view.
-use Rattle.std.specs.Prelude.{◌≡◌, ◌≢◌, ℕ, ◌+◌, ◌/◌, ◌%◌, ◌^◌, ◌<◌, ◌≤◌, true, false, Some, List, ◌∷◌, length, take, Contains}
+use Rattle.std.specs.Prelude.{◌≡◌, ◌≢◌, ℕ, ◌+◌, ◌/◌, ◌%◌, ◌^◌, ◌<◌, ◌≤◌, true, false, Some, None, List, ◌∷◌, length, take, Contains}
 use Rattle.atomic_table.specs.Table.{Me, rest}
 use Rattle.pin_book.specs.declared.write.Write.{Write}
 use Rattle.pin_book.specs.Sequence.{writes_by}
@@ -9,13 +9,14 @@ use Rattle.pin_core.specs.declared.entry.Entry.{Entry}
 use Rattle.pin_core.specs.declared.view.View.{View}
 use Rattle.pin_core.specs.Core.{IsReader, held_at}
 use Rattle.pin_core.specs.Lawful.{entry_number}
-use Rattle.pin_core.specs.Step.{loaded, pinned, unpinned}
-use Rattle.pin_core.specs.Packing.{place}
+use Rattle.pin_core.specs.Step.{loaded, pinned, unpinned, got_turn, was_refused, gave_turn, stored}
+use Rattle.pin_core.specs.Packing.{place, book_place, packed_turn}
 use Rattle.pin_table.specs.declared.cell.Cell.{Cell}
+use Rattle.pin_table.specs.declared.cell.Cell.TheVariants.{Desk}
 use Rattle.pin_table.specs.declared.sitting.Plan.{Plan}
 use Rattle.pin_table.specs.declared.sitting.Sitting.{Sitting}
 use Rattle.pin_table.specs.Seat.{knowing}
-use Rattle.pin_table.specs.Sources.{source_of}
+use Rattle.pin_table.specs.Sources.{source_of, book_of}
 use Rattle.pin_table.specs.Places.{IsStocked}
 
 -- the fact of how the seat's table was made, and of the seat's reader number
@@ -43,6 +44,14 @@ module _ {P H : Type 0} where
     pub n : found / 2 ^ 6 % 2 ^ 26 ≡ front_number plan.slots journal
     pub slot : found % 2 ^ 6 ≡ front_slot plan.slots journal
     pub inside : front_slot plan.slots journal < plan.slots
+
+  -- another reader has the turn
+  pub record TurnMissed (plan : Plan P) (number : ℕ) (m : Me (Cell P H) (Sitting P)) (found : ℕ) (m' : Me (Cell P H) (Sitting P)) : Type 0 where
+    pub holder : ℕ
+    pub seat : m' ≡ (knowing (was_refused (Some holder) m.0.core) m.0, m.1)
+    pub named : found ≡ packed_turn (Some holder)
+    pub other : holder ≢ number
+    pub inside : holder < plan.readers
 
   module _ (home : P → H) (source : P → ℕ) where
     -- the seat has taken a place, which is stocked with the version of this number
@@ -74,3 +83,28 @@ module _ {P H : Type 0} where
       pub last : e.held ≡ true → held_at e.slot m.0.core ≡ 1 → m'.1 ≡ rest m.1
       pub further : e.held ≡ true → 1 < held_at e.slot m.0.core → m'.1 ≡ m.1
       pub stray : e.held ≡ false → m'.1 ≡ m.1
+
+  module _ (home : P → H) (name_of : H → ℕ → List ℕ) where
+    -- the book of this journal, with its place
+    abbrev pub book_cell : Plan P → List Write → ℕ × Cell P H
+    book_cell plan journal = (book_place plan.slots, Desk (book_of name_of (home plan.first) plan.slots plan.room journal))
+
+    -- the reader has got the turn: it has seen the whole journal, and has the book
+    pub record TurnTaken (plan : Plan P) (number : ℕ) (m : Me (Cell P H) (Sitting P)) (m' : Me (Cell P H) (Sitting P)) : Type 0 where
+      pub journal : List Write
+      pub seat : m' ≡ (knowing (got_turn journal m.0.core) m.0, book_cell plan journal ∷ m.1)
+      pub goes_on : GoesOn plan.slots plan.room number m.0.core journal
+
+    -- An exchange of the turn word from nobody gets the turn where it finds nobody there, and else tells which other reader
+    -- has it.
+    pub record TurnTried (plan : Plan P) (number : ℕ) (m : Me (Cell P H) (Sitting P)) (found : ℕ) (m' : Me (Cell P H) (Sitting P)) : Type 0 where
+      pub won : found ≡ packed_turn None → TurnTaken plan number m m'
+      pub lost : found ≢ packed_turn None → TurnMissed plan number m found m'
+
+  -- the turn was given back, and the book with it
+  abbrev pub TurnGiven : Me (Cell P H) (Sitting P) → Me (Cell P H) (Sitting P) → Type 0
+  TurnGiven m m' = m' ≡ (knowing (gave_turn m.0.core) m.0, rest m.1)
+
+  -- the front word after an erase was stored
+  abbrev pub EraseStored : Write → Me (Cell P H) (Sitting P) → Me (Cell P H) (Sitting P) → Type 0
+  EraseStored write m m' = m' ≡ (knowing (stored write m.0.core) m.0, m.1)
