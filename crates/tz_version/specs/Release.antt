@@ -23,13 +23,13 @@ pub record Release : Type 0 where
   pub links : List Link
 
 -- the version text of a source, or nothing where there is none
-abbrev pub name_found : Option Source → List ℕ
-name_found None = []
-name_found (Some source) = version_of source
+abbrev pub source_name : Option Source → List ℕ
+source_name None = []
+source_name (Some source) = version_of source
 
 -- the name of each version of the source at a place: that source's version text
-abbrev pub name_at : Sources → ℕ → List ℕ
-name_at sources src = name_found (slice_get sources.texts src)
+abbrev pub version_name : Sources → ℕ → List ℕ
+version_name sources src = source_name (slice_get sources.texts src)
 
 -- the source at a place reads as that database
 pub record IsDatabaseOf (sources : Sources) (src : ℕ) (db : Db) : Type 0 where

@@ -145,7 +145,7 @@ impl Version {
 
 /// A list of versions keeps copies of one: its home is the sources that it was made from.
 impl Payload for Version {
-    ghost use Rattle.tz_version.specs.Release.{Release, name_at};
+    ghost use Rattle.tz_version.specs.Release.{Release, version_name};
 
     type Home = Sources;
 
@@ -153,7 +153,7 @@ impl Payload for Version {
 
     ghost source = { λ version. version.src };
 
-    ghost name_of = { name_at };
+    ghost name_of = { version_name };
 
     fn src(&self) -> u32 {
         self.src
