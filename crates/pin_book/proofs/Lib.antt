@@ -6,3 +6,4 @@ pub mod BookLemmas
 pub mod KeptLemmas
 pub mod LawLemmas
 pub mod Journals
+pub mod SourceLemmas

@@ -35,7 +35,7 @@ pub use payload::Payload;
 pub use replay_laws::{
     each_position_replays, erase_takes_the_next, front_is_never_erased, listed_is_kept,
     listed_is_pushed_and_not_erased, listed_numbers_fall, pushes_are_numbered_in_order,
-    slots_keep_what_was_pushed_last,
+    slots_keep_what_was_pushed_last, the_journal_tells_each_source,
 };
 pub use write::{Change, Write};
 

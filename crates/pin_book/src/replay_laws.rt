@@ -4,6 +4,7 @@ ghost use Rattle.pin_book.specs.declared.write.Write.{Write};
 ghost use Rattle.pin_book.specs.declared.write.Change.TheVariants as changes;
 ghost use Rattle.pin_book.specs.Replay.{Edition, front_of, is_listed, is_slot_listed, greatest_below, allowed, after_write, state_after, replays};
 ghost use Rattle.pin_book.specs.Pushes.{pushes, is_erased};
+ghost use Rattle.pin_book.specs.Sources.{source_of};
 
 /// The versions that are pushed have the numbers 2, 3, 4 and so on in the order of their pushes: the first version is 1.
 /// The front is the one pushed last.
@@ -48,6 +49,14 @@ pub fn listed_is_kept()
     ensures kept { (slots : ℕ) (journal : List Write) (edition : Edition) → 0 < slots → IsTrue (replays slots journal) → Contains (state_after slots journal).listed edition → (edition.slot < slots) × (slice_index (state_after slots journal).kept edition.slot ≡ edition.n) }
     ensures by_number { (slots slot : ℕ) (journal : List Write) → 0 < slots → IsTrue (replays slots journal) → slot < slots → IsTrue (is_slot_listed slot (state_after slots journal).listed) ↔ IsTrue (is_listed (slice_index (state_after slots journal).kept slot) (state_after slots journal).listed) }
     ensures few { (slots : ℕ) (journal : List Write) → 0 < slots → IsTrue (replays slots journal) → length (state_after slots journal).listed ≤ slots }
+{}
+
+/// The journal tells the source of each version by its number: what is listed has it, a push gives it to the version that
+/// it lists, and no later write changes it.
+pub fn the_journal_tells_each_source()
+    ensures listed { (slots : ℕ) (journal : List Write) (edition : Edition) → 0 < slots → IsTrue (replays slots journal) → Contains (state_after slots journal).listed edition → edition.src ≡ source_of journal edition.n }
+    ensures pushed { (slots n src slot : ℕ) (journal : List Write) (write : Write) → 0 < slots → IsTrue (replays slots (journal ++ write ∷ [])) → write.change ≡ changes.Push n src slot → source_of (journal ++ write ∷ []) n ≡ src }
+    ensures stays { (journal later : List Write) (number : ℕ) → 1 ≤ number → number ≤ length (pushes journal) + 1 → source_of (journal ++ later) number ≡ source_of journal number }
 {}
 
 /// Where a journal replays, so does each front of it: each position has a state, and the next write is allowed there.

@@ -1,5 +1,5 @@
 -- Versions as contracts see them, what makes them the version of a source, and their zones by name.
-use Rattle.std.specs.Prelude.{◌≡◌, ℕ, List, Some, None, slice_get}
+use Rattle.std.specs.Prelude.{◌≡◌, ℕ, List, [], Option, Some, None, slice_get}
 use Rattle.std.specs.List.{AllZip}
 use Rattle.tz_types.specs.declared.source.Source.{Source}
 use Rattle.tz_types.specs.declared.leaps.Leaps.{Leaps}
@@ -21,6 +21,15 @@ pub record Release : Type 0 where
   pub leaps : Leaps
   pub zones : List CompiledZone
   pub links : List Link
+
+-- the version text of a source, or nothing where there is none
+abbrev pub source_name : Option Source → List ℕ
+source_name None = []
+source_name (Some source) = version_of source
+
+-- the name of each version of the source at a place: that source's version text
+abbrev pub version_name : Sources → ℕ → List ℕ
+version_name sources src = source_name (slice_get sources.texts src)
 
 -- the source at a place reads as that database
 pub record IsDatabaseOf (sources : Sources) (src : ℕ) (db : Db) : Type 0 where

@@ -6,6 +6,7 @@ use crate::ready_zones::{compiled_zones, empty_cells};
 use crate::search::place_called;
 use crate::texts::{database, leap_table};
 use crate::{MakeError, NoZone, Sources};
+use pin_book::Payload;
 use std::alloc::Global;
 use std::marker::Model;
 use std::sync::Arc;
@@ -139,5 +140,26 @@ impl Version {
             )),
             None => Err(NoZone),
         }
+    }
+}
+
+/// A list of versions keeps copies of one: its home is the sources that it was made from.
+impl Payload for Version {
+    ghost use Rattle.tz_version.specs.Release.{Release, version_name};
+
+    type Home = Sources;
+
+    ghost home = { λ version. version.sources };
+
+    ghost source = { λ version. version.src };
+
+    ghost name_of = { version_name };
+
+    fn src(&self) -> u32 {
+        self.src
+    }
+
+    fn name(&self) -> VersionText {
+        self.name.copied()
     }
 }
