@@ -1,5 +1,5 @@
 -- The source of a version stays as the journal goes on.
-use Rattle.std.proofs.Common.{◌≡◌, ℕ, suc, ◌+◌, ◌-◌, ◌≤◌, ◌<◌, List, [], ◌∷◌, ◌++◌, map, length, take, drop, get_or, sym, refl, ap, ◌∙◌, arith, true}
+use Rattle.std.proofs.Common.{◌≡◌, ℕ, zero, suc, ◌+◌, ◌-◌, ◌≤◌, ◌<◌, List, [], ◌∷◌, ◌++◌, map, length, take, drop, get_or, sym, refl, ap, ◌∙◌, arith, true}
 use Rattle.std.proofs.lemmas.List.{length-append, length-map, map-append, get_or_append_left, get_or-append_right, take-append-drop}
 use Rattle.std.proofs.lemmas.List.Concat.{flat_map-append}
 use Rattle.pin_book.specs.declared.write.Write.{Write}
@@ -8,7 +8,8 @@ use Rattle.pin_book.specs.Replay.{Edition, front_number, replays}
 use Rattle.pin_book.specs.Pushes.{pushed_by, pushes}
 use Rattle.pin_book.proofs.ReplayLemmas.{replay_orderly}
 use Rattle.pin_book.proofs.Journals.{replays_take}
-use Rattle.pin_table.specs.Sources.{sources, source_of}
+use Rattle.pin_book.specs.Sources.{first_edition, editions, source_of}
+use Rattle.pin_table.specs.Sources.{sources}
 
 -- more writes add sources behind those of the first writes
 pub sources-append : (xs ys : List Write) → sources (xs ++ ys) ≡ sources xs ++ map (λ (e : Edition). e.src) (pushes ys)
@@ -22,11 +23,22 @@ unfolding front_number
 source_count slots journal some_slot is =
     let front = (replay_orderly slots journal some_slot is).front in let many = length-map (pushes journal) (λ (e : Edition). e.src) in omega arith
 
-pub source_stays : (slots number : ℕ) (xs ys : List Write) → 0 < slots → replays slots xs ≡ true → 0 < number → number ≤ front_number slots xs → source_of (xs ++ ys) number ≡ source_of xs number
+-- a source stands in the list of sources at the place of its number
+at_source : (es : List Edition) (i : ℕ) → (get_or es i first_edition).src ≡ get_or (map (λ (e : Edition). e.src) es) i 0
+at_source [] i = refl
+at_source (e ∷ es) zero = refl
+at_source (e ∷ es) (suc i) = at_source es i
+
+source_at : (journal : List Write) (number : ℕ) → source_of journal number ≡ get_or (sources journal) (number - 1) 0
 unfolding source_of
+source_at journal number = at_source (editions journal) (number - 1)
+
+pub source_stays : (slots number : ℕ) (xs ys : List Write) → 0 < slots → replays slots xs ≡ true → 0 < number → number ≤ front_number slots xs → source_of (xs ++ ys) number ≡ source_of xs number
 source_stays slots number xs ys some_slot is some old =
     let many = source_count slots xs some_slot is in
-    ap (λ (ns : List ℕ). get_or ns (number - 1) 0) (sources-append xs ys) ∙ get_or_append_left (sources xs) (map (λ (e : Edition). e.src) (pushes ys)) 0 (number - 1) (omega arith)
+    source_at (xs ++ ys) number
+    ∙ ap (λ (ns : List ℕ). get_or ns (number - 1) 0) (sources-append xs ys) ∙ get_or_append_left (sources xs) (map (λ (e : Edition). e.src) (pushes ys)) 0 (number - 1) (omega arith)
+    ∙ sym (source_at xs number)
 
 -- the same, where the first writes are known as a front part of the journal
 pub source_kept : (slots number : ℕ) (journal seen : List Write) → 0 < slots → replays slots journal ≡ true → take (length seen) journal ≡ seen → 0 < number → number ≤ front_number slots seen
@@ -39,10 +51,10 @@ source_kept slots number journal seen some_slot is front some old =
 -- the version that a push lists is of the source that the push names
 pub source_pushed : (slots n src slot : ℕ) (journal : List Write) (write : Write) → 0 < slots → replays slots journal ≡ true → write.change ≡ Push n src slot → n ≡ front_number slots journal + 1
     → source_of (journal ++ write ∷ []) n ≡ src
-unfolding source_of
 source_pushed slots n src slot journal write some_slot is push next =
     let many = source_count slots journal some_slot is in
-    ap (λ (ns : List ℕ). get_or ns (n - 1) 0) (sources-append journal (write ∷ []))
+    source_at (journal ++ write ∷ []) n
+    ∙ ap (λ (ns : List ℕ). get_or ns (n - 1) 0) (sources-append journal (write ∷ []))
     ∙ get_or-append_right (sources journal) (map (λ (e : Edition). e.src) (pushes (write ∷ []))) (length (sources journal)) (n - 1) 0 refl (omega arith)
     ∙ (let at : n - 1 - length (sources journal) ≡ 0 = omega arith in
     ap (λ (i : ℕ). get_or (map (λ (e : Edition). e.src) (pushes (write ∷ []))) i 0) at ∙ ap (λ c. get_or (map (λ (e : Edition). e.src) (pushed_by c ++ [])) 0 0) push)

@@ -1,18 +1,14 @@
--- Of which source each version of a journal is made, and what the versions of one home are called.
-use Rattle.std.specs.Prelude.{ℕ, ◌-◌, List, ◌∷◌, map, slice_index}
+-- The sources of the versions of a journal, and what the versions of one home are called.
+use Rattle.std.specs.Prelude.{ℕ, List, map}
 use Rattle.pin_book.specs.declared.write.Write.{Write}
 use Rattle.pin_book.specs.Replay.{Edition}
-use Rattle.pin_book.specs.Pushes.{pushes}
+unfoldable pub use Rattle.pin_book.specs.Sources.{source_of}
+use Rattle.pin_book.specs.Sources.{editions}
 use Rattle.pin_book.specs.Book.{Chronicle}
 
--- the sources of the versions in the order of their numbers: the first version is of source 0, and each other one of
--- the source that its push names
+-- the sources of the versions in the order of their numbers
 abbrev pub sources : List Write → List ℕ
-sources journal = 0 ∷ map (λ (e : Edition). e.src) (pushes journal)
-
--- the source of the version of this number, of which there is one from number 1 on
-unfoldable pub source_of : List Write → ℕ → ℕ
-source_of journal number = slice_index (sources journal) (number - 1)
+sources journal = map (λ (e : Edition). e.src) (editions journal)
 
 module _ {H : Type 0} (name_of : H → ℕ → List ℕ) where
   -- the book of a table with this journal: each version has the name of its home and source
