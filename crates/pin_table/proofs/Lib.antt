@@ -7,3 +7,4 @@ pub mod StepLemmas
 pub mod FrontLoads
 pub mod PinMoves
 pub mod TurnMoves
+pub mod RunLemmas
