@@ -1,3 +1,4 @@
 pub mod CarriedLemmas
 pub mod OpeningLemmas
 pub mod NumberLemmas
+pub mod KeptLemmas
