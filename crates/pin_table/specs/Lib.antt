@@ -10,3 +10,4 @@ pub mod Table
 pub mod Position
 pub mod Opening
 pub mod Main
+pub mod Parting

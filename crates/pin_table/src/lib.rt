@@ -8,6 +8,7 @@ mod layout;
 mod main_seat;
 mod opening;
 mod packing;
+mod parting;
 mod position;
 mod rule;
 mod shelf;
