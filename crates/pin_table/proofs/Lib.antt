@@ -3,3 +3,7 @@ pub mod OpeningLemmas
 pub mod NumberLemmas
 pub mod KeptLemmas
 pub mod PartingLemmas
+pub mod SourceLemmas
+pub mod OldStrays
+pub mod StepLemmas
+pub mod FrontLoads

@@ -21,7 +21,7 @@ use Rattle.pin_table.specs.declared.cell.Cell.TheVariants.{Empty, Place, Desk}
 use Rattle.pin_table.specs.declared.sitting.Plan.{Plan}
 use Rattle.pin_table.specs.declared.sitting.Sitting.{Sitting}
 use Rattle.pin_table.specs.Layout.{slot_word, word_count}
-use Rattle.pin_table.specs.Seat.{first_sitting, KnowPlan, HasSizes}
+use Rattle.pin_table.specs.Seat.{first_sitting, HasSizes}
 use Rattle.pin_table.specs.Shelf.{AreOf, full_shelf}
 use Rattle.pin_table.specs.Sources.{source_of, book_of}
 use Rattle.pin_table.specs.Places.{IsStocked, StandsAtHome}
@@ -138,10 +138,6 @@ module _ {P H : Type 0} (home : P → H) (source : P → ℕ) (name_of : H → �
       at_end : (l : List (Cell P H)) (a : Cell P H) (n : ℕ) → length l ≡ n → get_elem? (map maybe.some (l ++ a ∷ [])) n ≡ maybe.some (maybe.some a)
       at_end l a n long = ap (λ (m : List (maybe.Option (Cell P H))). get_elem? m n) (map-append maybe.some l (a ∷ [])) ∙ at_last (map maybe.some l) (maybe.some a) n (length-map l maybe.some ∙ long)
 
-  first_knows : (plan : Plan P) → KnowPlan plan (first_sitting plan ∷ [])
-  first_knows plan zero v at live = ap (λ (x : Sitting P). x.plan) (maybe.some-injective v (first_sitting plan) (sym at))
-  first_knows plan (suc j) v at live = absurd (maybe.some-ne-none v (sym at))
-
   pub opens_kept : (plan : Plan P) → HasSizes plan → source plan.first ≡ 0 → (cells : List (Cell P H)) → cells ≡ opening_cells plan.slots plan.readers plan.first (book_of name_of (home plan.first) plan.slots plan.room [])
       → Kept home source name_of plan (opening (opening_words plan.slots) cells (first_sitting plan))
   opens_kept plan sizes first cells is = let some = sizes.some_slots in record {
@@ -150,7 +146,6 @@ module _ {P H : Type 0} (home : P → H) (source : P → ℕ) (name_of : H → �
     reached = stays;
     words = shows_opening plan.slots plan.readers plan.room (omega arith);
     views = refl;
-    plans = first_knows plan;
     homes = stands_at_first plan sizes first cells is;
   }
 

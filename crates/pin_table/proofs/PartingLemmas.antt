@@ -5,7 +5,7 @@ use mathlib.Core.Option.{some}
 use lib.ListN.{get_elem?}
 use lib.Seq.{map-set}
 use Rattle.atomic_table.specs.Table.{State, Splits, Joins}
-use Rattle.atomic_table.proofs.Lists.{at_map, at_set, at_snoc, set_else}
+use Rattle.atomic_table.proofs.Lists.{set_else}
 use Rattle.pin_core.specs.declared.view.View.{View}
 use Rattle.pin_core.specs.declared.view.Role.TheVariants as roles
 use Rattle.pin_core.specs.Core.{CoreState, has_number, spent}
@@ -41,12 +41,6 @@ module _ {P H : Type 0} (home : P → H) (source : P → ℕ) (name_of : H → �
         reached = moves_on h.core (split h.core id v.core number writes) h.reached (splits id v.core number writes at' may);
         words = record { wide = h.words.wide; front = h.words.front; turn = h.words.turn; slots = h.words.slots };
         views = views;
-        plans = λ j u there lives. ⊎_elim
-            (λ (old : get_elem? (set s.views id (left_sitting number writes v)) j ≡ some u). ⊎_elim
-            (λ (x : (j ≡ id) × (left_sitting number writes v ≡ u)). subst (λ (y : Sitting P). y.plan ≡ Some plan) x.1 planned)
-            (λ (x : (j ≢ id) × (get_elem? s.views j ≡ some u)). h.plans j u x.1 lives) (at_set s.views id j (left_sitting number writes v) u old))
-            (λ (new : right_sitting number writes v ≡ u). subst (λ (y : Sitting P). y.plan ≡ Some plan) new planned)
-            (at_snoc (set s.views id (left_sitting number writes v)) (right_sitting number writes v) u j there);
         homes = record {
           deep = h.homes.deep;
           places = split_home (λ slot reader number'. IsPlaceAt home source s.homes (home plan.first) h.core.journal (place slot reader) number') h.core id number writes v.core lawful at' may h.homes.places;
@@ -75,12 +69,6 @@ module _ {P H : Type 0} (home : P → H) (source : P → ℕ) (name_of : H → �
         reached = moves_on h.core (join h.core id v.core other w.core) h.reached (joins id v.core other w.core mine its may);
         words = record { wide = h.words.wide; front = h.words.front; turn = h.words.turn; slots = h.words.slots };
         views = views;
-        plans = λ j u at_j lives. ⊎_elim
-            (λ (x : (j ≡ other) × (spent_sitting ≡ u)). absurd (lives (ap (λ (y : Sitting P). y.core.role) (sym x.1))))
-            (λ (x : (j ≢ other) × (get_elem? (set s.views id both) j ≡ some u)). ⊎_elim
-            (λ (y : (j ≡ id) × (both ≡ u)). subst (λ (z : Sitting P). z.plan ≡ Some plan) y.1 planned)
-            (λ (y : (j ≢ id) × (get_elem? s.views j ≡ some u)). h.plans j u y.1 lives) (at_set s.views id j both u x.1))
-            (at_set (set s.views id both) other j spent_sitting u at_j);
         homes = record {
           deep = h.homes.deep;
           places = join_home (λ slot number number'. IsPlaceAt home source s.homes (home plan.first) h.core.journal (place slot number) number') h.core id other v.core w.core lawful mine its may h.homes.places;

@@ -1,10 +1,7 @@
 -- What a seat at the table knows, and how a table is made.
-use Rattle.std.specs.Prelude.{◌≡◌, ◌≢◌, ℕ, ◌≤◌, Some, None, List}
-use mathlib.Core.Option.{some}
-use lib.ListN.{get_elem?}
+use Rattle.std.specs.Prelude.{ℕ, ◌≤◌, Some, None}
 use Rattle.pin_book.specs.declared.limits.TheConstants.{FEWEST_SLOTS, MOST_SLOTS, MOST_WRITES, READER_NUMBERS}
 use Rattle.pin_core.specs.declared.view.View.{View}
-use Rattle.pin_core.specs.declared.view.Role.TheVariants as roles
 use Rattle.pin_core.specs.Core.{spent}
 use Rattle.pin_core.specs.Step.{main_at_first}
 use Rattle.pin_table.specs.declared.sitting.Plan.{Plan}
@@ -31,11 +28,6 @@ module _ {P : Type 0} where
   -- what a seat knows after its reader was joined
   abbrev pub spent_sitting : Sitting P
   spent_sitting = record { core = spent; plan = None }
-
-  -- each seat that isn't spent knows that its table was made so
-  abbrev pub KnowPlan : Plan P → List (Sitting P) → Type 0
-  KnowPlan plan sittings =
-      (id : ℕ) (v : Sitting P) → get_elem? sittings id ≡ some v → v.core.role ≢ roles.Spent → v.plan ≡ Some plan
 
   -- the sizes that a table may have
   pub record HasSizes (plan : Plan P) : Type 0 where
