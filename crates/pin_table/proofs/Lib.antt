@@ -7,3 +7,4 @@ pub mod SourceLemmas
 pub mod OldStrays
 pub mod StepLemmas
 pub mod FrontLoads
+pub mod ClosingLemmas

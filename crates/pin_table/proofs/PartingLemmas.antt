@@ -1,22 +1,21 @@
 -- A split and a join keep the rule.
-use Rattle.std.proofs.Common.{◌≡◌, ◌≢◌, ◌⊎◌, ℕ, ◌<◌, ◌≤◌, List, [], ◌∷◌, ◌++◌, map, set, sym, refl, ap, ◌∙◌, subst, ⊎_elim, arith, false, Some}
+use Rattle.std.proofs.Common.{◌≡◌, ◌≢◌, ℕ, ◌<◌, ◌≤◌, List, [], ◌∷◌, ◌++◌, map, set, sym, ap, ◌∙◌, false, Some}
 use Rattle.std.proofs.lemmas.List.{map-append}
 use mathlib.Core.Option.{some}
 use lib.ListN.{get_elem?}
 use lib.Seq.{map-set}
-use Rattle.atomic_table.specs.Table.{State, Splits, Joins}
+use Rattle.atomic_table.specs.Table.{Splits, Joins}
 use Rattle.atomic_table.proofs.Lists.{set_else}
 use Rattle.pin_core.specs.declared.view.View.{View}
 use Rattle.pin_core.specs.declared.view.Role.TheVariants as roles
-use Rattle.pin_core.specs.Core.{CoreState, has_number, spent}
+use Rattle.pin_core.specs.Core.{has_number, spent}
 use Rattle.pin_core.specs.Packing.{place}
 use Rattle.pin_core.specs.Step.{MaySplit, MayJoin, left_over, split_off, taken_in, split, join}
 use Rattle.pin_core.specs.Run.{moves_on, splits, joins}
 use Rattle.pin_core.proofs.AtHome.{split_home, join_home}
-use Rattle.pin_table.specs.declared.cell.Cell.{Cell}
 use Rattle.pin_table.specs.declared.sitting.Plan.{Plan}
 use Rattle.pin_table.specs.declared.sitting.Sitting.{Sitting}
-use Rattle.pin_table.specs.Seat.{core_of, knowing, spent_sitting}
+use Rattle.pin_table.specs.Seat.{core_of, spent_sitting}
 use Rattle.pin_table.specs.Places.{IsPlaceAt}
 use Rattle.pin_table.specs.Rule.{Kept}
 use Rattle.pin_table.specs.Parting.{readers_of_plan, left_sitting, right_sitting, joined_sitting}
@@ -31,7 +30,7 @@ module _ {P H : Type 0} (home : P → H) (source : P → ℕ) (name_of : H → �
       let live : v.core.role ≢ roles.Spent = main_lives v.core main in
       let once = (has_once h.core id number v.core lawful at' live mine).1 in
       let may : MaySplit number writes v.core = record { main = main; mine = once; room = room } in
-      let readers : h.core.readers ≡ readers_of_plan v.plan = sizes.readers ∙ sym (ap readers_of_plan planned) in
+      let readers : h.core.readers ≡ readers_of_plan v.plan = sizes.1 ∙ sym (ap readers_of_plan planned) in
       let views : (split h.core id v.core number writes).views ≡ map core_of (set s.views id (left_sitting number writes v) ++ right_sitting number writes v ∷ []) =
       (λ i. set (h.views i) id (left_over (readers i) number writes v.core) ++ split_off (readers i) number writes v.core ∷ [])
       ∙ sym (map-append core_of (set s.views id (left_sitting number writes v)) (right_sitting number writes v ∷ []) ∙ ap (λ (l : List View). l ++ core_of (right_sitting number writes v) ∷ []) (map-set core_of s.views id (left_sitting number writes v))) in

@@ -12,3 +12,4 @@ pub mod Position
 pub mod Opening
 pub mod Main
 pub mod Parting
+pub mod Closing

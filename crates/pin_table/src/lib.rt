@@ -2,6 +2,7 @@
 #![tactic(auto)]
 
 mod cell;
+mod closing;
 mod copies;
 mod exchange;
 mod layout;

@@ -1,4 +1,4 @@
-use Rattle.std.proofs.Common.{rules, arith, ap, sym, ◌∙◌}
+use Rattle.std.proofs.Common.{arith}
 use Rattle.pin_table.specs.Seat.{plan_of}
 use Rattle.pin_table.proofs.PartingLemmas.{joins_kept}
 use Rattle.pin_table.proofs.parting.meet.Goals as goal
