@@ -3,8 +3,9 @@ pub mod OpeningLemmas
 pub mod NumberLemmas
 pub mod KeptLemmas
 pub mod PartingLemmas
+pub mod ClosingLemmas
 pub mod SourceLemmas
 pub mod OldStrays
 pub mod StepLemmas
 pub mod FrontLoads
-pub mod ClosingLemmas
+pub mod PinMoves

@@ -1,6 +1,6 @@
 -- The source of a version stays as the journal goes on.
 use Rattle.std.proofs.Common.{◌≡◌, ℕ, suc, ◌+◌, ◌-◌, ◌≤◌, ◌<◌, List, [], ◌∷◌, ◌++◌, map, length, take, drop, get_or, sym, refl, ap, ◌∙◌, arith, true}
-use Rattle.std.proofs.lemmas.List.{length-map, map-append, get_or_append_left, get_or-append_right, take-append-drop}
+use Rattle.std.proofs.lemmas.List.{length-append, length-map, map-append, get_or_append_left, get_or-append_right, take-append-drop}
 use Rattle.std.proofs.lemmas.List.Concat.{flat_map-append}
 use Rattle.pin_book.specs.declared.write.Write.{Write}
 use Rattle.pin_book.specs.declared.write.Change.TheVariants.{Push}
@@ -46,3 +46,14 @@ source_pushed slots n src slot journal write some_slot is push next =
     ∙ get_or-append_right (sources journal) (map (λ (e : Edition). e.src) (pushes (write ∷ []))) (length (sources journal)) (n - 1) 0 refl (omega arith)
     ∙ (let at : n - 1 - length (sources journal) ≡ 0 = omega arith in
     ap (λ (i : ℕ). get_or (map (λ (e : Edition). e.src) (pushes (write ∷ []))) i 0) at ∙ ap (λ c. get_or (map (λ (e : Edition). e.src) (pushed_by c ++ [])) 0 0) push)
+
+-- the front has a number from 1 on
+pub front_some : (slots : ℕ) (journal : List Write) → 0 < slots → replays slots journal ≡ true → 0 < front_number slots journal
+front_some slots journal some_slot is = let many = source_count slots journal some_slot is in omega arith
+
+-- the front's number rises with more writes
+pub front_rises : (slots w : ℕ) (journal : List Write) → 0 < slots → replays slots journal ≡ true → front_number slots (take w journal) ≤ front_number slots journal
+front_rises slots w journal some_slot is =
+    let all = source_count slots journal some_slot is in let part = source_count slots (take w journal) some_slot (replays_take slots journal w is) in
+    let whole = ap (λ (l : List Write). length (sources l)) (sym (take-append-drop w journal)) ∙ ap (λ (ns : List ℕ). length ns) (sources-append (take w journal) (drop w journal))
+    ∙ length-append (sources (take w journal)) (map (λ (e : Edition). e.src) (pushes (drop w journal))) in omega arith

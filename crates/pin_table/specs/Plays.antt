@@ -1,6 +1,6 @@
 -- What each atomic step tells the seat that makes it: what the word that it found shows, what the seat knows afterwards,
 -- and which places, or the book, it has then. What it knows is what pin_core's step makes of its view.
-use Rattle.std.specs.Prelude.{◌≡◌, ◌≢◌, ℕ, ◌+◌, ◌/◌, ◌%◌, ◌^◌, ◌<◌, ◌≤◌, true, false, Some, List, ◌∷◌, length, take, slice_get, Contains}
+use Rattle.std.specs.Prelude.{◌≡◌, ◌≢◌, ℕ, ◌+◌, ◌/◌, ◌%◌, ◌^◌, ◌<◌, ◌≤◌, true, false, Some, List, ◌∷◌, length, take, Contains}
 use Rattle.atomic_table.specs.Table.{Me, rest}
 use Rattle.pin_book.specs.declared.write.Write.{Write}
 use Rattle.pin_book.specs.Replay.{front_number, front_slot, kept_number, replays}
@@ -58,11 +58,11 @@ module _ {P H : Type 0} where
       pub further : 0 < held_at (front_slot plan.slots m.0.core.seen) m.0.core → (found / 2 ^ 32 ≡ front_number plan.slots m.0.core.seen) × (m'.1 ≡ m.1)
       pub stray : found / 2 ^ 32 ≢ front_number plan.slots m.0.core.seen → m'.1 ≡ m.1
 
-    -- A pin was taken off, whose slot's word showed the handle's number if it was one. With the last handle at a slot the
-    -- reader gives its place back.
-    pub record PinTaken (plan : Plan P) (at : ℕ) (m : Me (Cell P H) (Sitting P)) (found : ℕ) (m' : Me (Cell P H) (Sitting P)) : Type 0 where
+    -- The pin of this entry was taken off, whose slot's word showed the handle's number if it was one. With the last handle
+    -- at a slot the reader gives its place back.
+    pub record PinTaken (plan : Plan P) (at : ℕ) (e : Entry) (m : Me (Cell P H) (Sitting P)) (found : ℕ) (m' : Me (Cell P H) (Sitting P)) : Type 0 where
       pub view : m'.0 ≡ knowing (unpinned at m.0.core) m.0
-      pub shown : (e : Entry) → slice_get m.0.core.entries at ≡ Some e → e.held ≡ true → found / 2 ^ 32 ≡ entry_number plan.slots m.0.core.seen e
-      pub last : (e : Entry) → slice_get m.0.core.entries at ≡ Some e → e.held ≡ true → held_at e.slot m.0.core ≡ 1 → m'.1 ≡ rest m.1
-      pub further : (e : Entry) → slice_get m.0.core.entries at ≡ Some e → e.held ≡ true → 1 < held_at e.slot m.0.core → m'.1 ≡ m.1
-      pub stray : (e : Entry) → slice_get m.0.core.entries at ≡ Some e → e.held ≡ false → m'.1 ≡ m.1
+      pub shown : e.held ≡ true → found / 2 ^ 32 ≡ entry_number plan.slots m.0.core.seen e
+      pub last : e.held ≡ true → held_at e.slot m.0.core ≡ 1 → m'.1 ≡ rest m.1
+      pub further : e.held ≡ true → 1 < held_at e.slot m.0.core → m'.1 ≡ m.1
+      pub stray : e.held ≡ false → m'.1 ≡ m.1
