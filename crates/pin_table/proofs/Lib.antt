@@ -1,6 +1,9 @@
 pub mod CarriedLemmas
 pub mod OpeningLemmas
 pub mod NumberLemmas
+pub mod KeptLemmas
+pub mod PartingLemmas
+pub mod ClosingLemmas
 pub mod SourceLemmas
 pub mod OldStrays
 pub mod StepLemmas

@@ -12,3 +12,5 @@ pub mod Table
 pub mod Position
 pub mod Opening
 pub mod Main
+pub mod Parting
+pub mod Closing

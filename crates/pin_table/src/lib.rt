@@ -2,12 +2,14 @@
 #![tactic(auto)]
 
 mod cell;
+mod closing;
 mod copies;
 mod exchange;
 mod layout;
 mod main_seat;
 mod opening;
 mod packing;
+mod parting;
 mod position;
 mod rule;
 mod shelf;
