@@ -11,3 +11,4 @@ pub mod FrontLoads
 pub mod PinMoves
 pub mod TurnMoves
 pub mod RunLemmas
+pub mod PlayLemmas

@@ -10,10 +10,12 @@ mod main_seat;
 mod opening;
 mod packing;
 mod parting;
+mod plays;
 mod position;
 mod rule;
 mod shelf;
 mod sitting;
+mod steps;
 mod table;
 
 pub use cell::Cell;
