@@ -1,5 +1,5 @@
 -- What a seat carries, turned and exchanged.
-use Rattle.std.proofs.Common.{◌≡◌, ◌≢◌, ℕ, zero, suc, ◌+◌, ◌<◌, ◌≤◌, List, [], ◌∷◌, ◌++◌, map, length, get_or, take, drop, sym, refl, ap, ◌∙◌, subst, ⊎_elim, arith, Bool, true, false, cond, ◌==◌, eqb-true, append_assoc, append-nil, Some, None}
+use Rattle.std.proofs.Common.{◌≡◌, ℕ, zero, suc, ◌+◌, ◌<◌, ◌≤◌, List, [], ◌∷◌, ◌++◌, length, get_or, take, drop, sym, refl, ap, ◌∙◌, subst, ⊎_elim, arith, Bool, true, false, cond, ◌==◌, eqb-true, append_assoc, Some, None}
 use Rattle.std.proofs.Math.Seq.{take-suc, drop-cons}
 use Rattle.std.proofs.lemmas.Bool.{cases_Bool, lt-ltb}
 use Rattle.std.proofs.lemmas.List.{map-append, length-map, take-append-drop}
@@ -8,7 +8,6 @@ use Rattle.std.specs.Prelude.{position, nat_lt}
 use Rattle.std.specs.List.{position_or_len}
 use Rattle.atomic_table.specs.Table.{rest, turned}
 use Rattle.pin_core.specs.Core.{times, one_if}
-use Rattle.pin_core.proofs.Sums.{total-append}
 use Rattle.pin_table.specs.Carried.{slots_of, Exchanges}
 
 -- a number that stands in the list is found before its end

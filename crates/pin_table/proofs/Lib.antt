@@ -1,9 +1,14 @@
 pub mod CarriedLemmas
 pub mod OpeningLemmas
 pub mod NumberLemmas
+pub mod KeptLemmas
+pub mod PartingLemmas
+pub mod ClosingLemmas
 pub mod SourceLemmas
 pub mod OldStrays
 pub mod StepLemmas
 pub mod FrontLoads
 pub mod PinMoves
 pub mod TurnMoves
+pub mod RunLemmas
+pub mod PlayLemmas

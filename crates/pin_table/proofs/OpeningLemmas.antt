@@ -1,5 +1,5 @@
 -- A table as it is made meets the rule.
-use Rattle.std.proofs.Common.{◌≡◌, ◌≢◌, ℕ, zero, suc, ◌+◌, ◌-◌, ◌*◌, ◌<◌, ◌≤◌, List, [], ◌∷◌, ◌++◌, map, length, set, get_or, replicate, sym, refl, ap, ◌∙◌, subst, ⊎_elim, arith, append_assoc, Some, None}
+use Rattle.std.proofs.Common.{◌≡◌, ◌≢◌, ℕ, zero, suc, ◌+◌, ◌-◌, ◌*◌, ◌<◌, ◌≤◌, List, [], ◌∷◌, ◌++◌, map, length, set, get_or, replicate, sym, refl, ap, ◌∙◌, subst, ⊎_elim, arith, append_assoc}
 use Rattle.std.proofs.Math.ListN.{length-set}
 use Rattle.std.proofs.Common.{get_or-set_other, get_or-set_same}
 use Rattle.std.proofs.lemmas.Bool.{cases_eq}
@@ -19,7 +19,6 @@ use Rattle.pin_core.proofs.Opening.{opens}
 use Rattle.pin_table.specs.declared.cell.Cell.{Cell}
 use Rattle.pin_table.specs.declared.cell.Cell.TheVariants.{Empty, Place, Desk}
 use Rattle.pin_table.specs.declared.sitting.Plan.{Plan}
-use Rattle.pin_table.specs.declared.sitting.Sitting.{Sitting}
 use Rattle.pin_table.specs.Layout.{slot_word, word_count}
 use Rattle.pin_table.specs.Seat.{first_sitting, HasSizes}
 use Rattle.pin_table.specs.Shelf.{AreOf, full_shelf}
@@ -60,19 +59,19 @@ module _ (slots readers room : ℕ) (some_slot : 0 < slots) where
   pub shows_opening : Shows (opening_words slots) (opening_state slots readers room)
   shows_opening =
       let f : ℕ = packed_front record { w = 0; n = 1; slot = 0 } in let e : ℕ = packed_slot record { number = 1; count = 0 } in
-      let one : List ℕ = set (replicate (word_count slots) 0) 0 f in
-      let long0 : length (replicate (word_count slots) 0) ≡ 32 + 16 * slots = length-replicate (word_count slots) 0 in
-      let long : length one ≡ 32 + 16 * slots = length-set (replicate (word_count slots) 0) 0 f ∙ long0 in
+      let one : List ℕ = set (replicate {A = ℕ} (word_count slots) 0) 0 f in
+      let long0 : length (replicate {A = ℕ} (word_count slots) 0) ≡ 32 + 16 * slots = length-replicate (word_count slots) 0 in
+      let long : length one ≡ 32 + 16 * slots = length-set (replicate {A = ℕ} (word_count slots) 0) 0 f ∙ long0 in
       record {
         wide = length-set one 32 e ∙ long;
-        front = get_or-set_other one 32 0 e 0 (λ (same : 0 ≡ 32). omega arith) ∙ (get_or-set_same (replicate (word_count slots) 0) 0 f 0 (some_word _ slots long0)
+        front = get_or-set_other one 32 0 e 0 (λ (same : 0 ≡ 32). omega arith) ∙ (get_or-set_same (replicate {A = ℕ} (word_count slots) 0) 0 f 0 (some_word _ slots long0)
             ∙ (λ i. packed_front record { w = 0; n = sym (first_number slots) i; slot = sym (first_slot slots) i }));
-        turn = get_or-set_other one 32 16 e 0 (λ (same : 16 ≡ 32). omega arith) ∙ (get_or-set_other (replicate (word_count slots) 0) 0 16 f 0 (λ (same : 16 ≡ 0). omega arith) ∙ get_or-replicate (word_count slots) 16 0 0 (omega arith));
+        turn = get_or-set_other one 32 16 e 0 (λ (same : 16 ≡ 32). omega arith) ∙ (get_or-set_other (replicate {A = ℕ} (word_count slots) 0) 0 16 f 0 (λ (same : 16 ≡ 0). omega arith) ∙ get_or-replicate (word_count slots) 16 0 0 (omega arith));
         slots = λ slot low. let number = number_shown slot low in let count = no_pins slot low in ⊎_elim
             (λ (is : slot ≡ 0). subst (λ k. get_or (set one 32 e) (slot_word k) 0 ≡ packed_slot record { number = number_at (opening_state slots readers room).words slot; count = count_at (opening_state slots readers room).words slot }) (sym is)
             (get_or-set_same one 32 e 0 (omega arith) ∙ (let is_first : kept_number slots [] slot ≡ 1 = ap (kept_number slots []) is ∙ kept_first slots some_slot in
             let shown : number_at (opening_state slots readers room).words slot ≡ 1 = number ∙ is_first in λ i. packed_slot record { number = sym shown i; count = sym count i })))
-            (λ (no : slot ≢ 0). get_or-set_other one 32 (slot_word slot) e 0 (λ (same : slot_word slot ≡ 32). no (omega arith)) ∙ (get_or-set_other (replicate (word_count slots) 0) 0 (slot_word slot) f 0 (λ (same : slot_word slot ≡ 0). omega arith)
+            (λ (no : slot ≢ 0). get_or-set_other one 32 (slot_word slot) e 0 (λ (same : slot_word slot ≡ 32). no (omega arith)) ∙ (get_or-set_other (replicate {A = ℕ} (word_count slots) 0) 0 (slot_word slot) f 0 (λ (same : slot_word slot ≡ 0). omega arith)
             ∙ (get_or-replicate (word_count slots) (slot_word slot) 0 0 (omega arith)
             ∙ (let shown : number_at (opening_state slots readers room).words slot ≡ 0 = number ∙ kept_others slots slot no in λ i. packed_slot record { number = sym shown i; count = sym count i }))))
             (cases_eq slot 0);

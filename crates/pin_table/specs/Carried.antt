@@ -1,5 +1,5 @@
 -- The slots of the base that a seat carries, each with what it holds, the head first.
-use Rattle.std.specs.Prelude.{◌≡◌, ℕ, List, [], ◌∷◌, ◌++◌, map}
+use Rattle.std.specs.Prelude.{◌≡◌, ℕ, List, ◌∷◌, ◌++◌, map}
 
 module _ {S : Type 0} where
   -- which slots a seat carries

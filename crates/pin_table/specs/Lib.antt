@@ -6,8 +6,11 @@ pub mod Carried
 pub mod Sources
 pub mod Places
 pub mod Rule
+pub mod Runs
 pub mod Plays
 pub mod Table
 pub mod Position
 pub mod Opening
 pub mod Main
+pub mod Parting
+pub mod Closing

@@ -1,21 +1,24 @@
 -- What each atomic step tells the seat that makes it: what the word that it found shows, what the seat knows afterwards,
 -- and which places, or the book, it has then. What it knows is what pin_core's step makes of its view.
-use Rattle.std.specs.Prelude.{◌≡◌, ◌≢◌, ℕ, ◌+◌, ◌/◌, ◌%◌, ◌^◌, ◌<◌, ◌≤◌, true, false, Some, None, List, ◌∷◌, length, take, Contains}
+use Rattle.std.specs.Prelude.{◌≡◌, ◌≢◌, ℕ, ◌+◌, ◌/◌, ◌%◌, ◌^◌, ◌<◌, ◌≤◌, true, false, Some, None, List, [], ◌∷◌, ◌++◌, length, take, Contains}
+use mathlib.Core.Option.{some}
+use lib.ListN.{get_elem?}
 use Rattle.atomic_table.specs.Table.{Me, rest}
 use Rattle.pin_book.specs.declared.write.Write.{Write}
 use Rattle.pin_book.specs.Sequence.{writes_by}
-use Rattle.pin_book.specs.Replay.{front_number, front_slot, kept_number, replays}
+use Rattle.pin_book.specs.Replay.{front_number, front_slot, kept_number, is_taken, replays, state_after, allowed}
 use Rattle.pin_core.specs.declared.entry.Entry.{Entry}
 use Rattle.pin_core.specs.declared.view.View.{View}
 use Rattle.pin_core.specs.Core.{IsReader, held_at}
 use Rattle.pin_core.specs.Lawful.{entry_number}
-use Rattle.pin_core.specs.Step.{loaded, pinned, unpinned, got_turn, was_refused, gave_turn, stored}
-use Rattle.pin_core.specs.Packing.{place, book_place, packed_turn}
+use Rattle.pin_core.specs.Step.{loaded, pinned, unpinned, got_turn, was_refused, gave_turn, stored, claiming, found_pinned, HasClaimed}
+use Rattle.pin_core.specs.Packing.{place, book_place, packed_slot, packed_turn}
 use Rattle.pin_table.specs.declared.cell.Cell.{Cell}
 use Rattle.pin_table.specs.declared.cell.Cell.TheVariants.{Desk}
 use Rattle.pin_table.specs.declared.sitting.Plan.{Plan}
 use Rattle.pin_table.specs.declared.sitting.Sitting.{Sitting}
 use Rattle.pin_table.specs.Seat.{knowing}
+use Rattle.pin_table.specs.Runs.{run_from}
 use Rattle.pin_table.specs.Sources.{source_of, book_of}
 use Rattle.pin_table.specs.Places.{IsStocked}
 
@@ -33,6 +36,30 @@ pub record GoesOn (slots room number : ℕ) (v : View) (journal : List Write) : 
   pub own : writes_by number journal ≡ v.own
   pub handles : (e : Entry) → Contains v.entries e → e.held ≡ true → kept_number slots journal e.slot ≡ entry_number slots journal e
   pub strays : (e : Entry) → Contains v.entries e → e.held ≡ false → e.position < length journal
+
+-- the word of a slot that no pin is at, with the number that the slot keeps after this journal
+abbrev pub unpinned_word : ℕ → List Write → ℕ → ℕ
+unpinned_word slots journal slot = packed_slot record { number = kept_number slots journal slot; count = 0 }
+
+-- the word of a slot that is claimed after this journal: it shows the number that comes next
+abbrev pub claimed_word : ℕ → List Write → ℕ
+claimed_word slots journal = packed_slot record { number = front_number slots journal + 1; count = 0 }
+
+-- Who has the turn has seen the whole journal, so what `MayClaim` asks of it is asked of what the reader has seen.
+pub record MayClaimSlot (slots : ℕ) (slot : ℕ) (v : View) : Type 0 where
+  pub turn : v.turn ≡ true
+  pub free : v.claimed ≡ None
+  pub inside : slot < slots
+  pub unlisted : is_taken slots v.seen slot ≡ false
+
+-- the same of what `MayStore` asks
+pub record MayWrite (slots number : ℕ) (write : Write) (v : View) : Type 0 where
+  pub turn : v.turn ≡ true
+  pub allowance : 0 < v.allowance
+  pub allows : allowed (state_after slots v.seen) write.change ≡ true
+  pub by : write.by ≡ number
+  pub seq : write.seq ≡ length v.own + 1
+  pub claimed : HasClaimed v.claimed write.change
 
 module _ {P H : Type 0} where
   -- the front word that was loaded shows the front after a journal, which the seat has seen then
@@ -108,3 +135,27 @@ module _ {P H : Type 0} where
   -- the front word after an erase was stored
   abbrev pub EraseStored : Write → Me (Cell P H) (Sitting P) → Me (Cell P H) (Sitting P) → Type 0
   EraseStored write m m' = m' ≡ (knowing (stored write m.0.core) m.0, m.1)
+
+  -- the seat has all places of this slot, which it has claimed
+  pub record SlotClaimed (plan : Plan P) (slot : ℕ) (m m' : Me (Cell P H) (Sitting P)) : Type 0 where
+    pub cells : List (Cell P H)
+    pub many : length cells ≡ plan.readers
+    pub seat : m' ≡ (knowing (claiming slot m.0.core) m.0, run_from (place slot 0) cells ++ m.1)
+
+  -- An exchange of the slot's word from the number that the slot keeps and no pin claims the slot where it finds that, and
+  -- else finds the slot pinned.
+  pub record SlotTried (plan : Plan P) (slot : ℕ) (m : Me (Cell P H) (Sitting P)) (found : ℕ) (m' : Me (Cell P H) (Sitting P)) : Type 0 where
+    pub won : found ≡ unpinned_word plan.slots m.0.core.seen slot → SlotClaimed plan slot m m'
+    pub lost : found ≢ unpinned_word plan.slots m.0.core.seen slot → m' ≡ (knowing (found_pinned slot m.0.core) m.0, m.1)
+
+  -- the front word after a push was stored, and the places of its slot were given back
+  abbrev pub PushStored : Write → List (ℕ × Cell P H) → Me (Cell P H) (Sitting P) → Me (Cell P H) (Sitting P) → Type 0
+  PushStored write behind m m' = m' ≡ (knowing (stored write m.0.core) m.0, behind)
+
+  module _ (home : P → H) (source : P → ℕ) where
+    -- the seat has taken the places of this slot last, each stocked with versions of this source, and the others before
+    pub record HasStockedRun (plan : Plan P) (slot src : ℕ) (behind carried : List (ℕ × Cell P H)) : Type 0 where
+      pub cells : List (Cell P H)
+      pub many : length cells ≡ plan.readers
+      pub stocked : (i : ℕ) (cell : Cell P H) → get_elem? cells i ≡ some cell → IsStocked home source (home plan.first) src cell
+      pub is : carried ≡ run_from (place slot 0) cells ++ behind

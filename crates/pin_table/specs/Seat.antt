@@ -1,5 +1,5 @@
 -- What a seat at the table knows, and how a table is made.
-use Rattle.std.specs.Prelude.{ℕ, ◌≤◌, Some, None}
+use Rattle.std.specs.Prelude.{◌≤◌, Some, None}
 use Rattle.pin_book.specs.declared.limits.TheConstants.{FEWEST_SLOTS, MOST_SLOTS, MOST_WRITES, READER_NUMBERS}
 use Rattle.pin_core.specs.declared.view.View.{View}
 use Rattle.pin_core.specs.Core.{spent}

@@ -2,16 +2,20 @@
 #![tactic(auto)]
 
 mod cell;
+mod closing;
 mod copies;
 mod exchange;
 mod layout;
 mod main_seat;
 mod opening;
 mod packing;
+mod parting;
+mod plays;
 mod position;
 mod rule;
 mod shelf;
 mod sitting;
+mod steps;
 mod table;
 
 pub use cell::Cell;

@@ -49,6 +49,19 @@ impl<P: Payload> Main<P> {
         }
     }
 
+    /// Returns the seat alone.
+    pub(crate) fn into_seat(self) -> Chair<P>
+        ensures { result ≡ self.seat }
+    {
+        let Main {
+            seat,
+            has: _,
+            allowance: _,
+            seen: _,
+        } = self;
+        seat
+    }
+
     /// How many writes may still be made or handed out.
     pub fn allowance(&self) -> u32
         ensures { result ≡ (main_view self.now).allowance }

@@ -1,17 +1,19 @@
 //! The table: a list of versions that threads share.
-ghost use Rattle.std.specs.Prelude.{◌≡◌, ◌≤◌, IfOk};
+ghost use Rattle.std.specs.Prelude.{◌≡◌, ◌≤◌, IfOk, length};
 ghost use Rattle.std.specs.Arc.{arc_value};
 ghost use Rattle.pin_book.specs.declared.limits.TheConstants.{FEWEST_SLOTS, MOST_SLOTS, MOST_WRITES, READER_NUMBERS};
 ghost use Rattle.pin_table.specs.Layout.{word_count, cell_count};
 ghost use Rattle.pin_table.specs.Seat.{plan_of, HasSizes};
 
+use crate::cell::Cell;
+use crate::closing::take_last;
 use crate::copies::Copies;
 use crate::main_seat::Main;
 use crate::opening::{opening_cells, opening_words};
 use crate::rule::Base;
 use crate::sitting::Key;
 use atomic_table::{Refused, Table};
-use pin_book::{Book, Payload};
+use pin_book::{Book, Payload, READER_NUMBERS};
 use std::alloc::Global;
 use std::snapshot::Snapshot;
 use std::sync::Arc;
@@ -31,7 +33,9 @@ pub struct PinTable<P: Payload> {
 
 impl<P: Payload> PinTable<P> {
     ghost use Rattle.pin_core.specs.Step.{main_at_first};
+    ghost use Rattle.pin_table.specs.Closing.{IsWhole};
     ghost use Rattle.pin_table.specs.Main.{main_view};
+    ghost use Rattle.pin_table.specs.Sources.{book_of};
     ghost use Rattle.pin_table.specs.Table.{plan, IsMainOf};
 
     /// Makes a table whose list has this first version, of source 0, with so many slots, reader numbers, and room for so
@@ -79,5 +83,24 @@ impl<P: Payload> PinTable<P> {
         ensures { IfOk result (λ copies. copies ≡ record { version = arc_value version; readers = (plan self.now).readers }) }
     {
         Copies::new(alloc, version, self.readers)
+    }
+
+    /// Closes the table once no reader is out, and returns its book.
+    pub fn close(self, main: Main<P>) -> Book
+        requires own { IsMainOf self main }
+        requires whole { length (main_view main).numbers ≡ (plan self).readers }
+        ensures book { result ≡ book_of P.name_of (P.home (plan self).first) (plan self).slots (plan self).room result.journal }
+        ensures journal { IsWhole (plan self).readers (main_view main) result.journal }
+    {
+        let PinTable {
+            base,
+            slots,
+            readers: _,
+        } = self;
+        let closed = base.close_with(main.into_seat());
+        let Cell::Desk(book) = take_last(closed, READER_NUMBERS * slots as usize) else {
+            unreachable!()
+        };
+        book
     }
 }

@@ -1,6 +1,6 @@
-use Rattle.std.proofs.Common.{rules, arith, refl, sym, ap, ◌∙◌, subst, ◌≡◌, ◌+◌, ◌++◌, ◌∷◌, ◌==◌, drop, take, length}
+use Rattle.std.proofs.Common.{arith, sym, ap, ◌∙◌, subst, ◌≡◌, ◌++◌, ◌==◌, drop, take}
 use Rattle.std.specs.Prelude.{position}
-use Rattle.atomic_table.specs.Table.{rest, turned}
+use Rattle.atomic_table.specs.Table.{turned}
 use Rattle.pin_table.specs.Carried.{slots_of, Exchanges}
 use Rattle.pin_table.proofs.CarriedLemmas.{none_missing, slots_of-turned, turned_more, carried_there, at_head, exchanges}
 use Rattle.pin_table.proofs.exchange.exchange.Goals as goal

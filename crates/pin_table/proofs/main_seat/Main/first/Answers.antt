@@ -1,7 +1,6 @@
 use Rattle.std.proofs.Common.{◌≡◌, ◌<◌, ◌↔◌, ◌∙◌, ap, sym, subst, true, false, get_or, length}
 use Rattle.pin_book.specs.Replay.{front_number, front_slot}
 use Rattle.pin_core.specs.Core.{has_number}
-use Rattle.pin_core.specs.Step.{main_at_first}
 use Rattle.pin_table.specs.Position.{slots_of_plan}
 use Rattle.pin_table.proofs.NumberLemmas.{has_all}
 use Rattle.pin_table.proofs.OpeningLemmas.{first_number, first_slot}

@@ -1,0 +1,76 @@
+-- A split and a join keep the rule.
+use Rattle.std.proofs.Common.{◌≡◌, ◌≢◌, ℕ, ◌<◌, ◌≤◌, List, [], ◌∷◌, ◌++◌, map, set, sym, ap, ◌∙◌, false, Some}
+use Rattle.std.proofs.lemmas.List.{map-append}
+use mathlib.Core.Option.{some}
+use lib.ListN.{get_elem?}
+use lib.Seq.{map-set}
+use Rattle.atomic_table.specs.Table.{Splits, Joins}
+use Rattle.atomic_table.proofs.Lists.{set_else}
+use Rattle.pin_core.specs.declared.view.View.{View}
+use Rattle.pin_core.specs.declared.view.Role.TheVariants as roles
+use Rattle.pin_core.specs.Core.{has_number, spent}
+use Rattle.pin_core.specs.Packing.{place}
+use Rattle.pin_core.specs.Step.{MaySplit, MayJoin, left_over, split_off, taken_in, split, join}
+use Rattle.pin_core.specs.Run.{moves_on, splits, joins}
+use Rattle.pin_core.proofs.AtHome.{split_home, join_home}
+use Rattle.pin_table.specs.declared.sitting.Plan.{Plan}
+use Rattle.pin_table.specs.declared.sitting.Sitting.{Sitting}
+use Rattle.pin_table.specs.Seat.{core_of, spent_sitting}
+use Rattle.pin_table.specs.Places.{IsPlaceAt}
+use Rattle.pin_table.specs.Rule.{Kept}
+use Rattle.pin_table.specs.Parting.{readers_of_plan, left_sitting, right_sitting, joined_sitting}
+use Rattle.pin_table.proofs.KeptLemmas.{kept_sizes, kept_lawful, kept_view, has_once}
+
+module _ {P H : Type 0} (home : P → H) (source : P → ℕ) (name_of : H → ℕ → List ℕ) (plan : Plan P) where
+  pub splits_kept : (id number writes : ℕ) (v : Sitting P) → v.plan ≡ Some plan → v.core.role ≡ roles.Main → 0 < has_number number v.core → writes ≤ v.core.allowance
+      → Splits (Kept home source name_of plan) id v (left_sitting number writes v) (right_sitting number writes v)
+  splits_kept id number writes v planned main mine room s h at =
+      let lawful = kept_lawful home source name_of plan s h in let sizes = kept_sizes home source name_of plan s h in
+      let at' : get_elem? h.core.views id ≡ some v.core = kept_view home source name_of plan s h id v at in
+      let live : v.core.role ≢ roles.Spent = main_lives v.core main in
+      let once = (has_once h.core id number v.core lawful at' live mine).1 in
+      let may : MaySplit number writes v.core = record { main = main; mine = once; room = room } in
+      let readers : h.core.readers ≡ readers_of_plan v.plan = sizes.1 ∙ sym (ap readers_of_plan planned) in
+      let views : (split h.core id v.core number writes).views ≡ map core_of (set s.views id (left_sitting number writes v) ++ right_sitting number writes v ∷ []) =
+      (λ i. set (h.views i) id (left_over (readers i) number writes v.core) ++ split_off (readers i) number writes v.core ∷ [])
+      ∙ sym (map-append core_of (set s.views id (left_sitting number writes v)) (right_sitting number writes v ∷ []) ∙ ap (λ (l : List View). l ++ core_of (right_sitting number writes v) ∷ []) (map-set core_of s.views id (left_sitting number writes v))) in
+      record {
+        core = split h.core id v.core number writes;
+        sizes = h.sizes;
+        reached = moves_on h.core (split h.core id v.core number writes) h.reached (splits id v.core number writes at' may);
+        words = record { wide = h.words.wide; front = h.words.front; turn = h.words.turn; slots = h.words.slots };
+        views = views;
+        homes = record {
+          deep = h.homes.deep;
+          places = split_home (λ slot reader number'. IsPlaceAt home source s.homes (home plan.first) h.core.journal (place slot reader) number') h.core id number writes v.core lawful at' may h.homes.places;
+          book = h.homes.book;
+        };
+      }
+    where
+      main_lives : (u : View) → u.role ≡ roles.Main → u.role ≢ roles.Spent
+      main_lives u main spent = absurd (cc)
+
+  pub joins_kept : (id other : ℕ) (v w : Sitting P) → v.plan ≡ Some plan → v.core.role ≡ roles.Main → w.core.role ≡ roles.Reader → w.core.entries ≡ [] → w.core.turn ≡ false
+      → Joins (Kept home source name_of plan) id v other w (joined_sitting v w) spent_sitting
+  joins_kept id other v w planned main reader unpinned idle s h at apart there =
+      let lawful = kept_lawful home source name_of plan s h in
+      let both : Sitting P = joined_sitting v w in
+      let there' : get_elem? s.views other ≡ some w = sym (set_else s.views id other both apart) ∙ there in
+      let mine : get_elem? h.core.views id ≡ some v.core = kept_view home source name_of plan s h id v at in
+      let its : get_elem? h.core.views other ≡ some w.core = kept_view home source name_of plan s h other w there' in
+      let may : MayJoin v.core w.core = record { main = main; reader = reader; unpinned = unpinned; turn = idle } in
+      let views : (join h.core id v.core other w.core).views ≡ map core_of (set (set s.views id both) other spent_sitting) =
+      ap (λ (l : List View). set (set l id (taken_in v.core w.core)) other spent) h.views
+      ∙ sym (map-set core_of (set s.views id both) other spent_sitting ∙ ap (λ (l : List View). set l other spent) (map-set core_of s.views id both)) in
+      record {
+        core = join h.core id v.core other w.core;
+        sizes = h.sizes;
+        reached = moves_on h.core (join h.core id v.core other w.core) h.reached (joins id v.core other w.core mine its may);
+        words = record { wide = h.words.wide; front = h.words.front; turn = h.words.turn; slots = h.words.slots };
+        views = views;
+        homes = record {
+          deep = h.homes.deep;
+          places = join_home (λ slot number number'. IsPlaceAt home source s.homes (home plan.first) h.core.journal (place slot number) number') h.core id other v.core w.core lawful mine its may h.homes.places;
+          book = h.homes.book;
+        };
+      }

@@ -1,0 +1,11 @@
+use Rattle.std.proofs.Common.{◌≡◌, ℕ, ◌-◌, ◌+◌, ◌<◌, false, get_or}
+use Rattle.std.specs.Mem.Slots.{slots_filled, slots_len}
+use Rattle.std.specs.Mem.Slots.Ownership.{Filled}
+use Rattle.pin_table.proofs.closing.take_last.Given as goal
+
+abbrev pub invariant-loop-place : goal.invariant-loop-place
+invariant-loop-place g l = (slots_len l.closed.slots ≡ l.last + 1) × Filled (slots_filled l.closed.slots) l.place l.last × (get_or (slots_filled l.closed.slots) l.last false ≡ false)
+    × ((k : ℕ) → k < l.place → get_or (slots_filled l.closed.slots) k false ≡ false)
+
+abbrev pub decreases-loop-place : goal.decreases-loop-place
+decreases-loop-place g l = l.last - l.place
