@@ -2,7 +2,7 @@
 
 /// A pin of a reader: its slot, the position that the reader had seen when it added the pin, and whether it holds the
 /// front of that position. A pin that doesn't is a stray: the slot's word showed another number.
-#[derive(Clone, Copy, Debug, PartialEq, Eq)]
+#[derive(Clone, Copy, Debug, Default, PartialEq, Eq)]
 pub struct Entry {
     pub slot: u32,
     pub position: u32,

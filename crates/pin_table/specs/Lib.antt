@@ -14,3 +14,5 @@ pub mod Opening
 pub mod Main
 pub mod Parting
 pub mod Closing
+pub mod Reader
+pub mod Numbers

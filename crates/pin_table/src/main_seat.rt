@@ -1,12 +1,18 @@
 //! The main: what the thread has that made a table.
-ghost use Rattle.std.specs.Prelude.{◌≡◌, ℕ, ◌<◌, ◌≤◌, ◌↔◌, length, slice_index_or, false, IsTrue};
+ghost use Rattle.std.specs.Prelude.{◌≡◌, ℕ, ◌<◌, ◌≤◌, ◌↔◌, length, slice_index_or, position, [], false, IsTrue, IsErr, OnErr, IfOk};
 ghost use Rattle.pin_book.specs.declared.limits.TheConstants.{READER_NUMBERS};
 ghost use Rattle.pin_core.specs.Core.{has_number};
 ghost use Rattle.pin_core.specs.declared.view.Role.TheVariants as roles;
 ghost use Rattle.pin_table.specs.Position.{IsAfter, slots_of_plan};
 
+use crate::exchange::Carried;
+use crate::no_reader::NoReader;
+use crate::parting::part;
 use crate::position::Position;
+use crate::reader::Reader;
 use crate::rule::Chair;
+use crate::table::PinTable;
+use arrayvec::ArrayVec;
 use pin_book::{Payload, READER_NUMBERS};
 
 /// What the thread has that made a table. It has the numbers of the readers that aren't out, and the writes that may
@@ -29,6 +35,9 @@ pub struct Main<P: Payload> {
 impl<P: Payload> Main<P> {
     ghost use Rattle.pin_core.specs.Step.{main_at_first};
     ghost use Rattle.pin_table.specs.Main.{main_view};
+    ghost use Rattle.pin_table.specs.Reader.{reader_view};
+    ghost use Rattle.pin_table.specs.Numbers.{SplitsLeast};
+    ghost use Rattle.pin_table.specs.Table.{plan, IsMainOf};
 
     /// Makes the main of a new table, whose first seat this is.
     pub(crate) fn first(seat: Chair<P>, readers: u32, writes: u32) -> Self
@@ -47,6 +56,38 @@ impl<P: Payload> Main<P> {
                 slot: 0,
             },
         }
+    }
+
+    /// Sends a reader out with so many writes: that of the least number that isn't out, if there is one.
+    pub fn split<'t>(
+        &mut self,
+        table: &'t PinTable<P>,
+        writes: u32,
+    ) -> Result<Reader<'t, P>, NoReader>
+        requires own { IsMainOf table.now self.old }
+        requires room { writes ≤ (main_view self.old).allowance }
+        ensures none { IsErr result ↔ ((main_view self.old).numbers ≡ []) }
+        ensures unchanged { OnErr result (main_view self.new ≡ main_view self.old) }
+        ensures parted { IfOk result (λ reader. SplitsLeast (plan table.now).readers writes (main_view self.old) (main_view self.new) (reader_view reader)) }
+        ensures table { IfOk result (λ reader. reader.table.now ≡ table.now) }
+        ensures own { IsMainOf table.now self.new }
+    {
+        let Some(place) = first_true(&self.has) else {
+            return Err(NoReader);
+        };
+        let number = place as u32;
+        let seat = part(table, &mut self.seat, number, writes);
+        self.has[place] = false;
+        self.allowance -= writes;
+        Ok(Reader {
+            table,
+            seat,
+            carried: Carried::new(),
+            number,
+            allowance: writes,
+            seen: self.seen,
+            entries: ArrayVec::new(),
+        })
     }
 
     /// Returns the seat alone.
@@ -80,4 +121,11 @@ fn first_numbers(readers: u32) -> [bool; READER_NUMBERS]
         has[number] = true;
     }
     has
+}
+
+/// The place of the first that is true.
+fn first_true(has: &[bool; READER_NUMBERS]) -> Option<usize>
+    ensures { result ≡ position (λ one. one) has.now }
+{
+    has.iter().position(|one| *one)
 }
