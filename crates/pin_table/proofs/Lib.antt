@@ -10,5 +10,6 @@ pub mod StepLemmas
 pub mod FrontLoads
 pub mod PinMoves
 pub mod TurnMoves
+pub mod ClaimMoves
 pub mod RunLemmas
 pub mod PlayLemmas
