@@ -11,5 +11,6 @@ pub mod FrontLoads
 pub mod PinMoves
 pub mod TurnMoves
 pub mod ClaimMoves
+pub mod StoreMoves
 pub mod RunLemmas
 pub mod PlayLemmas

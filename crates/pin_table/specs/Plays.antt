@@ -11,8 +11,8 @@ use Rattle.pin_core.specs.declared.entry.Entry.{Entry}
 use Rattle.pin_core.specs.declared.view.View.{View}
 use Rattle.pin_core.specs.Core.{IsReader, held_at}
 use Rattle.pin_core.specs.Lawful.{entry_number}
-use Rattle.pin_core.specs.Step.{loaded, pinned, unpinned, got_turn, was_refused, gave_turn, stored, claiming, found_pinned, HasClaimed}
-use Rattle.pin_core.specs.Packing.{place, book_place, packed_slot, packed_turn}
+use Rattle.pin_core.specs.Step.{loaded, pinned, unpinned, got_turn, was_refused, gave_turn, stored, claiming, found_pinned, HasClaimed, front_after}
+use Rattle.pin_core.specs.Packing.{place, book_place, packed_slot, packed_front, packed_turn}
 use Rattle.pin_table.specs.declared.cell.Cell.{Cell}
 use Rattle.pin_table.specs.declared.cell.Cell.TheVariants.{Desk}
 use Rattle.pin_table.specs.declared.sitting.Plan.{Plan}
@@ -44,6 +44,10 @@ unpinned_word slots journal slot = packed_slot record { number = kept_number slo
 -- the word of a slot that is claimed after this journal: it shows the number that comes next
 abbrev pub claimed_word : ℕ → List Write → ℕ
 claimed_word slots journal = packed_slot record { number = front_number slots journal + 1; count = 0 }
+
+-- the front word after this journal
+abbrev pub stored_word : ℕ → List Write → ℕ
+stored_word slots journal = packed_front (front_after slots journal)
 
 -- Who has the turn has seen the whole journal, so what `MayClaim` asks of it is asked of what the reader has seen.
 pub record MayClaimSlot (slots : ℕ) (slot : ℕ) (v : View) : Type 0 where
