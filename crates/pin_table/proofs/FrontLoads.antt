@@ -16,27 +16,57 @@ use Rattle.pin_core.specs.declared.entry.Entry.{Entry}
 use Rattle.pin_core.specs.declared.view.View.{View}
 use Rattle.pin_core.specs.Core.{CoreState, Front, IsReader}
 use Rattle.pin_core.specs.Lawful.{WasFront, entry_number}
-use Rattle.pin_core.specs.Step.{loaded, load_front}
-use Rattle.pin_core.specs.Run.{loads}
+use Rattle.pin_core.specs.Step.{loaded, load_front, opening_state}
+use Rattle.pin_core.specs.Run.{Reaches, loads}
 use Rattle.pin_core.specs.Packing.{packed_front, place}
 use Rattle.pin_core.proofs.Packing.{front_small, front_back}
-use Rattle.pin_core.proofs.Readers.{part_of_journal, keeps as keeps_slot}
+use Rattle.pin_core.proofs.Readers.{part_of_journal, own_writes, room_for, keeps as keeps_slot}
 use Rattle.pin_core.proofs.Seats.{is_live}
 use Rattle.pin_core.proofs.AtHome.{load_home}
 use Rattle.pin_table.specs.declared.cell.Cell.{Cell}
 use Rattle.pin_table.specs.declared.sitting.Plan.{Plan}
 use Rattle.pin_table.specs.declared.sitting.Sitting.{Sitting}
 use Rattle.pin_table.specs.declared.layout.TheConstants.{FRONT_WORD}
-use Rattle.pin_table.specs.Seat.{knowing}
+use Rattle.pin_table.specs.Seat.{knowing, HasSizes}
 use Rattle.pin_table.specs.Places.{IsPlaceAt}
 use Rattle.pin_table.specs.Rule.{Kept}
-use Rattle.pin_table.specs.Plays.{ForPlan, FrontLoaded}
+use Rattle.pin_table.specs.Plays.{ForReader, GoesOn, FrontLoaded}
 use Rattle.pin_table.proofs.OldStrays.{strays_old}
-use Rattle.pin_table.proofs.StepLemmas.{same_words, Known, known, after_step}
+use Rattle.pin_table.proofs.StepLemmas.{same_words, Known, known, after_step, lives, plan_here, same_plan, for_reader}
+
+-- what a reader is told of the journal in a state that the steps reach
+pub goes_on : {P : Type 0} (plan : Plan P) (s : CoreState) (id number : ℕ) (v : View) → HasSizes plan → Reaches (opening_state plan.slots plan.readers plan.room) s → Known plan s id number v
+    → GoesOn s.slots s.room number v s.journal
+goes_on plan s id number v sizes run k =
+    let part = part_of_journal s id v k.lawful k.has.here (lives plan s id number v k) in let places = k.lawful.places id v k.has.here (lives plan s id number v k) in record {
+      grows = part.1;
+      replay = k.lawful.follows.replay;
+      fits = room_for s id v k.lawful k.has.here;
+      own = (own_writes s id number v k.lawful k.has).0;
+      handles = λ e among held. let was = All-contains (WasFront s.slots s.journal s.floor (length v.seen)) v.entries e places.entries among in let early = was.told in let within = part.0 in
+          ap (λ (l : List Write). kept_number s.slots l e.slot) (sym (take_all (length s.journal) s.journal (omega arith))) ∙ keeps_slot s k.lawful id number v k.has e among held (length s.journal) (omega arith) (omega arith);
+      strays = strays_old plan.slots plan.readers plan.room s id v (let least = sizes.some_slots in omega arith) run k.has.here;
+    }
 
 module _ {P H : Type 0} (home : P → H) (source : P → ℕ) (name_of : H → ℕ → List ℕ) where
+  shows : (plan : Plan P) (s : State (Cell P H) (Sitting P)) (h : Kept home source name_of plan s) (id number : ℕ) (m : Me (Cell P H) (Sitting P)) (k : Known plan h.core id number m.0.core)
+      → FrontLoaded (plan_here plan h.core) number m (slice_index s.words FRONT_WORD) (knowing (loaded h.core.journal m.0.core) m.0, m.1)
+  shows plan s h id number m k =
+      let core : CoreState = h.core in let few = h.sizes in let small = front_small core k.lawful in let front = k.lawful.follows.front in
+      let room = k.room in let slots_are = k.slots in let many = few.few_slots in let writes = few.few_writes in let word = h.words.front in
+      let back = front_back core.front.w core.front.n core.front.slot (omega arith) (omega arith) (omega arith) in
+      record {
+        journal = core.journal;
+        seat = refl;
+        goes_on = goes_on plan core id number m.0.core h.sizes h.reached k;
+        w = ap (λ n. n / 2 ^ 32) word ∙ back.1 ∙ ap (λ (f : Front). f.w) front;
+        n = ap (λ n. n / 2 ^ 6 % 2 ^ 26) word ∙ back.2 ∙ ap (λ (f : Front). f.n) front;
+        slot = ap (λ n. n % 2 ^ 6) word ∙ back.3 ∙ ap (λ (f : Front). f.slot) front;
+        inside = front_slot_inside core.slots core.journal k.some k.lawful.follows.replay;
+      }
+
   pub loads_front : (plan : Plan P) (slots id number : ℕ) (m : Me (Cell P H) (Sitting P)) → m.0.plan ≡ Some plan → IsReader number m.0.core
-      → Allows (Kept home source name_of plan) slots id m FRONT_WORD (λ n. n) (λ n m'. ForPlan m.0 (λ p. FrontLoaded p m n m'))
+      → Allows (Kept home source name_of plan) slots id m FRONT_WORD (λ n. n) (λ n m'. ForReader m.0 (λ p r. FrontLoaded p r m n m'))
   loads_front plan slots id number m of_plan reader s h deep at fits =
       let k = known home source name_of plan s h id number m.0 at reader in let core : CoreState = h.core in let v : View = m.0.core in let w : Sitting P = knowing (loaded core.journal v) m.0 in (
         w,
@@ -48,31 +78,6 @@ module _ {P H : Type 0} (home : P → H) (source : P → ℕ) (name_of : H → �
               places = load_home (λ slot reader n. IsPlaceAt home source s.homes (home plan.first) core.journal (place slot reader) n) core id number v k.has h.homes.places;
               book = h.homes.book;
             }),
-        (λ p is. subst (λ (q : Plan P). FrontLoaded q m (slice_index s.words FRONT_WORD) (w, m.1)) (same_Some plan p (sym of_plan ∙ is)) (shows s h id number m at reader)),
+        for_reader plan number m.0 (λ p r. FrontLoaded p r m (slice_index s.words FRONT_WORD) (w, m.1)) of_plan reader
+            (subst (λ (q : Plan P). FrontLoaded q number m (slice_index s.words FRONT_WORD) (w, m.1)) (same_plan plan core id number v k) (shows plan s h id number m k)),
       )
-    where
-      shows : (s : State (Cell P H) (Sitting P)) (h : Kept home source name_of plan s) (id number : ℕ) (m : Me (Cell P H) (Sitting P)) → get_elem? s.views id ≡ some m.0 → IsReader number m.0.core
-          → FrontLoaded plan m (slice_index s.words FRONT_WORD) (knowing (loaded h.core.journal m.0.core) m.0, m.1)
-      shows s h id number m at reader =
-          let k = known home source name_of plan s h id number m.0 at reader in let core : CoreState = h.core in let v : View = m.0.core in
-          let few = h.sizes in let small = front_small core k.lawful in let front = k.lawful.follows.front in let room = k.room in let slots_are = k.slots in let many = few.few_slots in let writes = few.few_writes in
-          let word = h.words.front in
-          let back = front_back core.front.w core.front.n core.front.slot (omega arith) (omega arith) (omega arith) in
-          let part = part_of_journal core id v k.lawful k.has.here (is_live number v reader) in
-          let places = k.lawful.places id v k.has.here (is_live number v reader) in
-          let long = ap (λ (f : Front). f.w) front in
-          record {
-            journal = core.journal;
-            seat = refl;
-            w = ap (λ n. n / 2 ^ 32) word ∙ back.1 ∙ long;
-            n = ap (λ n. n / 2 ^ 6 % 2 ^ 26) word ∙ back.2 ∙ ap (λ (f : Front). f.n) front ∙ ap (λ n. front_number n core.journal) slots_are;
-            slot = ap (λ n. n % 2 ^ 6) word ∙ back.3 ∙ ap (λ (f : Front). f.slot) front ∙ ap (λ n. front_slot n core.journal) slots_are;
-            inside = subst (λ n. front_slot n core.journal < n) slots_are (front_slot_inside core.slots core.journal k.some k.lawful.follows.replay);
-            room = omega arith;
-            replay = subst (λ n. replays n core.journal ≡ true) slots_are k.lawful.follows.replay;
-            grows = part.1;
-            handles = λ e among held. let was = All-contains (WasFront core.slots core.journal core.floor (length v.seen)) v.entries e places.entries among in let early = was.told in let within = part.0 in
-                subst (λ n. kept_number n core.journal e.slot ≡ entry_number n core.journal e) slots_are
-                (ap (λ (l : List Write). kept_number core.slots l e.slot) (sym (take_all (length core.journal) core.journal (omega arith))) ∙ keeps_slot core k.lawful id number v k.has e among held (length core.journal) (omega arith) (omega arith));
-            strays = strays_old plan.slots plan.readers plan.room core id v (let least = few.some_slots in omega arith) h.reached k.has.here;
-          }

@@ -9,3 +9,6 @@ pub mod OldStrays
 pub mod StepLemmas
 pub mod FrontLoads
 pub mod PinMoves
+pub mod TurnMoves
+pub mod RunLemmas
+pub mod PlayLemmas

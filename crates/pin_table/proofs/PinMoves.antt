@@ -8,7 +8,7 @@ use Rattle.std.proofs.lemmas.List.Elements.{All-contains}
 use mathlib.Core.Option as maybe
 use mathlib.Core.Option.{some}
 use lib.ListN.{get_elem?}
-use Rattle.atomic_table.specs.Table.{State, Me, keeps, takes, gives, put_back}
+use Rattle.atomic_table.specs.Table.{State, Me, keeps, takes, gives, put_back, Allows}
 use Rattle.atomic_table.proofs.Lists.{set_else, set_here}
 use Rattle.pin_book.specs.declared.write.Write.{Write}
 use Rattle.pin_book.specs.Replay.{front_number, front_slot, kept_number, replays}
@@ -24,10 +24,8 @@ use Rattle.pin_core.specs.Packing.{packed_slot, place, book_place}
 use Rattle.pin_core.proofs.Packing.{number_small, count_small, slot_back, apart, before_book}
 use Rattle.pin_core.proofs.Places.{away_iff, first_handle}
 use Rattle.pin_core.proofs.Strays.{beside_handle}
-use Rattle.pin_core.proofs.Readers.{part_of_journal, counted, shown as shown_number}
+use Rattle.pin_core.proofs.Readers.{counted, shown as shown_number}
 use Rattle.pin_core.proofs.Seats.{is_live}
-use Rattle.pin_core.proofs.Splits.{inside_of}
-use Rattle.pin_core.proofs.Stores.{has_own}
 use Rattle.pin_core.proofs.Sums.{total-append, total-remove, total_kept}
 use Rattle.pin_core.proofs.AtHome.{pin_home, take_home}
 use Rattle.pin_core.proofs.Runs.{moves_keep}
@@ -39,9 +37,9 @@ use Rattle.pin_table.specs.Seat.{knowing}
 use Rattle.pin_table.specs.Sources.{source_of}
 use Rattle.pin_table.specs.Places.{IsStocked, IsPlaceAt, StandsAtHome}
 use Rattle.pin_table.specs.Rule.{Kept}
-use Rattle.pin_table.specs.Plays.{ForPlan, TakesPlace, MayGivePlace, PinAdded, PinTaken}
+use Rattle.pin_table.specs.Plays.{ForReader, TakesPlace, MayGivePlace, PinAdded, PinTaken}
 use Rattle.pin_table.proofs.SourceLemmas.{source_kept, front_some, front_rises}
-use Rattle.pin_table.proofs.StepLemmas.{slot_written, Known, known, after_step, set_at, Steps}
+use Rattle.pin_table.proofs.StepLemmas.{slot_written, Known, known, after_step, set_at, Steps, lives, seen_part, seen_replays, reader_inside, plan_here, same_plan, for_step}
 
 -- where a reader has a handle at the slot, it has an entry that says so
 held_entry : (slot : ℕ) (entries : List Entry) → 0 < total (λ (e : Entry). one_if ((e.slot == slot) && e.held)) entries → (e : Entry) × Contains entries e × (e.slot ≡ slot) × (e.held ≡ true)
@@ -60,27 +58,20 @@ module _ {P H : Type 0} (home : P → H) (source : P → ℕ) (name_of : H → �
   abbrev v : View
   v = m.0.core
 
-  k : Known home source name_of plan core id number v
+  k : Known plan core id number v
   k = known home source name_of plan s h id number m.0 seated reader
 
-  abbrev M : Type 0
-  M = Me (Cell P H) (Sitting P)
+  abbrev here_plan : Plan P
+  here_plan = plan_here plan core
 
-  -- the plan with the sizes of the state
-  abbrev plan_here : Plan P
-  plan_here = record { slots = core.slots; readers = plan.readers; room = plan.room; first = plan.first }
+  part : take (length v.seen) core.journal ≡ v.seen
+  part = seen_part plan core id number v k
 
-  same_plan : plan_here ≡ plan
-  same_plan = ap (λ n. record { slots = n; readers = plan.readers; room = plan.room; first = plan.first }) k.slots
+  replay : replays core.slots v.seen ≡ true
+  replay = seen_replays plan core id number v k
 
-  seen_part : take (length v.seen) core.journal ≡ v.seen
-  seen_part = (part_of_journal core id v k.lawful k.has.here (is_live number v reader)).1
-
-  seen_replays : replays core.slots v.seen ≡ true
-  seen_replays = ap (replays core.slots) (sym seen_part) ∙ replays_take core.slots core.journal (length v.seen) k.lawful.follows.replay
-
-  reader_inside : number < core.readers
-  reader_inside = inside_of core.readers number v.numbers (k.lawful.owners.each id v k.has.here (is_live number v reader)).inside (has_own number v reader.1)
+  mine_inside : number < core.readers
+  mine_inside = reader_inside plan core id number v k
 
   -- what the word of a slot shows
   module _ (slot : ℕ) (inside : slot < core.slots) where
@@ -116,7 +107,7 @@ module _ {P H : Type 0} (home : P → H) (source : P → ℕ) (name_of : H → �
     w = knowing (pinned core.slots (number_at core.words slot) v) m.0
 
     inside : slot < core.slots
-    inside = front_slot_inside core.slots v.seen k.some seen_replays
+    inside = front_slot_inside core.slots v.seen k.some replay
 
     more : (found slot inside + 1) % 2 ^ 64 ≡ packed_slot record { number = shown slot inside; count = count slot inside + 1 }
     more = let is = word_is slot inside in let few = small slot inside in mod-eq_of_lt (omega arith) ∙ (omega arith)
@@ -147,7 +138,7 @@ module _ {P H : Type 0} (home : P → H) (source : P → ℕ) (name_of : H → �
     -- the reader's own place is taken
     module _ (front : number_at core.words slot ≡ front_number core.slots v.seen) (bare : held_at slot v ≡ 0) where
       own_place : IsPlaceAt home source s.homes (home plan.first) core.journal (place slot number) (number_at core.words slot)
-      own_place = h.homes.places slot number inside reader_inside (first_handle core id number v k.lawful k.has bare front)
+      own_place = h.homes.places slot number inside mine_inside (first_handle core id number v k.lawful k.has bare front)
 
       abbrev homes' : List (maybe.Option (Cell P H))
       homes' = set s.homes (place slot number) maybe.none
@@ -166,7 +157,7 @@ module _ {P H : Type 0} (home : P → H) (source : P → ℕ) (name_of : H → �
         deep = length-set s.homes (place slot number) maybe.none ∙ h.homes.deep;
         places = pin_home (λ at r n. (at < core.slots) × (r < core.readers) × IsPlaceAt home source s.homes (home plan.first) core.journal (place at r) n)
             (λ at r n. IsPlaceAt home source homes' (home plan.first) core.journal (place at r) n) core id number v k.has
-            (λ at r n none there. let few = h.sizes in let numbers = few.few_readers in let readers = k.readers in let low = there.1 in let mine = reader_inside in let old = there.2 in record {
+            (λ at r n none there. let few = h.sizes in let numbers = few.few_readers in let readers = k.readers in let low = there.1 in let mine = mine_inside in let old = there.2 in record {
               cell = old.cell;
               here = set_else s.homes (place slot number) (place at r) maybe.none
                   (λ same. let both = apart at slot r number (omega arith) (omega arith) same in gone (subst (λ (x : ℕ × ℕ). total (away x.0 x.1) t.views ≡ 0) (λ i. (both.0 i, both.1 i)) none)) ∙ old.here;
@@ -174,16 +165,16 @@ module _ {P H : Type 0} (home : P → H) (source : P → ℕ) (name_of : H → �
             })
             (λ at r low mine none. (low, mine, h.homes.places at r low mine none));
         book = λ free. set_else s.homes (place slot number) (book_place plan.slots) maybe.none
-            (λ same. let few = h.sizes in let numbers = few.few_readers in let readers = k.readers in let mine = reader_inside in let low = before_book core.slots slot number inside (omega arith) in let slots = k.slots in omega arith) ∙ h.homes.book free;
+            (λ same. let few = h.sizes in let numbers = few.few_readers in let readers = k.readers in let mine = mine_inside in let low = before_book core.slots slot number inside (omega arith) in let slots = k.slots in omega arith) ∙ h.homes.book free;
       }
 
       stocked_here : IsStocked home source (home plan.first) (source_of v.seen (front_number core.slots v.seen)) own_place.cell
       stocked_here =
-          let positive = front_some core.slots v.seen k.some seen_replays in
-          let kept = source_kept core.slots (front_number core.slots v.seen) core.journal v.seen k.some k.lawful.follows.replay seen_part positive (omega arith) in
+          let positive = front_some core.slots v.seen k.some replay in
+          let kept = source_kept core.slots (front_number core.slots v.seen) core.journal v.seen k.some k.lawful.follows.replay part positive (omega arith) in
           subst (λ n. IsStocked home source (home plan.first) n own_place.cell) (ap (source_of core.journal) front ∙ kept) (own_place.stocked (omega arith))
 
-    pub adds_at : Steps (Kept home source name_of plan) s id m (slot_word slot) (λ n. (n + 1) % 2 ^ 64) (λ n m'. PinAdded home source plan_here number m n m')
+    pub adds_at : Steps (Kept home source name_of plan) s id m (slot_word slot) (λ n. (n + 1) % 2 ^ 64) (λ n m'. PinAdded home source here_plan number m n m')
     adds_at = ⊎_elim
         (λ (front : number_at core.words slot ≡ front_number core.slots v.seen). ⊎_elim
         (λ (bare : held_at slot v ≡ 0). (
@@ -228,7 +219,7 @@ module _ {P H : Type 0} (home : P → H) (source : P → ℕ) (name_of : H → �
   -- ---- a pin is taken off ----
 
   module _ (at : ℕ) (e : Entry) (may : MayTake at e v)
-      (give : e.held ≡ true → held_at e.slot v ≡ 1 → MayGivePlace home source plan_here v.seen (entry_number core.slots v.seen e) (place e.slot number) m.1) where
+      (give : e.held ≡ true → held_at e.slot v ≡ 1 → MayGivePlace home source here_plan v.seen (entry_number core.slots v.seen e) (place e.slot number) m.1) where
     abbrev t' : CoreState
     t' = take_pin core id v at e
 
@@ -277,7 +268,7 @@ module _ {P H : Type 0} (home : P → H) (source : P → ℕ) (name_of : H → �
     keeps_all back = record {
       deep = h.homes.deep;
       places = take_home (λ a r n. IsPlaceAt home source s.homes (home plan.first) core.journal (place a r) n) (λ a r n. IsPlaceAt home source s.homes (home plan.first) core.journal (place a r) n) core id number at v e k.has may
-          (λ a r n none there. there) (λ none. h.homes.places e.slot number inside' reader_inside (back none)) h.homes.places;
+          (λ a r n none there. there) (λ none. h.homes.places e.slot number inside' mine_inside (back none)) h.homes.places;
       book = h.homes.book;
     }
 
@@ -296,14 +287,14 @@ module _ {P H : Type 0} (home : P → H) (source : P → ℕ) (name_of : H → �
       was_away none = let bare = ((away_iff core id number e.slot v k.lawful k.has).0 none).0 in omega arith
 
       below : (p < book_place core.slots) × (p < length s.homes)
-      below = let few = h.sizes in let numbers = few.few_readers in let readers = k.readers in let mine = reader_inside in let low = before_book core.slots e.slot number inside' (omega arith) in
+      below = let few = h.sizes in let numbers = few.few_readers in let readers = k.readers in let mine = mine_inside in let low = before_book core.slots e.slot number inside' (omega arith) in
           let slots = k.slots in let deep = h.homes.deep in (low, omega arith)
 
       stocked_back : IsStocked home source (home plan.first) (source_of core.journal (number_at core.words e.slot)) cell
       stocked_back =
-          let part = replays_take core.slots v.seen e.position seen_replays in
-          let kept = source_kept core.slots (entry_number core.slots v.seen e) core.journal v.seen k.some k.lawful.follows.replay seen_part
-          (front_some core.slots (take e.position v.seen) k.some part) (front_rises core.slots e.position v.seen k.some seen_replays) in
+          let early = replays_take core.slots v.seen e.position replay in
+          let kept = source_kept core.slots (entry_number core.slots v.seen e) core.journal v.seen k.some k.lawful.follows.replay part
+          (front_some core.slots (take e.position v.seen) k.some early) (front_rises core.slots e.position v.seen k.some replay) in
           subst (λ n. IsStocked home source (home plan.first) n cell) (sym (ap (source_of core.journal) (number_is held) ∙ kept)) (give held one).stocked
 
       gives_place : StandsAtHome home source name_of plan homes'' t'
@@ -311,7 +302,7 @@ module _ {P H : Type 0} (home : P → H) (source : P → ℕ) (name_of : H → �
         deep = length-set s.homes p (some cell) ∙ h.homes.deep;
         places = take_home (λ a r n. (a < core.slots) × (r < core.readers) × IsPlaceAt home source s.homes (home plan.first) core.journal (place a r) n)
             (λ a r n. IsPlaceAt home source homes'' (home plan.first) core.journal (place a r) n) core id number at v e k.has may
-            (λ a r n none there. let few = h.sizes in let numbers = few.few_readers in let readers = k.readers in let low = there.1 in let mine = reader_inside in let old = there.2 in record {
+            (λ a r n none there. let few = h.sizes in let numbers = few.few_readers in let readers = k.readers in let low = there.1 in let mine = mine_inside in let old = there.2 in record {
               cell = old.cell;
               here = set_else s.homes p (place a r) (some cell)
                   (λ same. let both = apart a e.slot r number (omega arith) (omega arith) same in was_away (subst (λ (x : ℕ × ℕ). total (away x.0 x.1) core.views ≡ 0) (λ i. (both.0 i, both.1 i)) none)) ∙ old.here;
@@ -322,7 +313,7 @@ module _ {P H : Type 0} (home : P → H) (source : P → ℕ) (name_of : H → �
         book = λ free. set_else s.homes p (book_place plan.slots) (some cell) (λ same. let low = below.0 in let slots = k.slots in omega arith) ∙ h.homes.book free;
       }
 
-    pub takes_at : Steps (Kept home source name_of plan) s id m (slot_word e.slot) (λ n. (n + (2 ^ 64 - 1)) % 2 ^ 64) (λ n m'. PinTaken home source plan_here at e m n m')
+    pub takes_at : Steps (Kept home source name_of plan) s id m (slot_word e.slot) (λ n. (n + (2 ^ 64 - 1)) % 2 ^ 64) (λ n m'. PinTaken home source here_plan at e m n m')
     takes_at = ⊎_elim
         (λ (held : e.held ≡ true). ⊎_elim
         (λ (one : held_at e.slot v ≡ 1). (
@@ -352,3 +343,21 @@ module _ {P H : Type 0} (home : P → H) (source : P → ℕ) (name_of : H → �
           record { view = refl; shown = told; last = λ held _. absurd (both_ways e.held stray held); further = λ held _. absurd (both_ways e.held stray held); stray = λ _. refl },
         ))
         (cases_Bool e.held)
+
+module _ {P H : Type 0} (home : P → H) (source : P → ℕ) (name_of : H → ℕ → List ℕ) where
+  pub adds_pin : (plan : Plan P) (slots id number slot : ℕ) (m : Me (Cell P H) (Sitting P)) → m.0.plan ≡ Some plan → IsReader number m.0.core → MayPin m.0.core → slot ≡ front_slot plan.slots m.0.core.seen
+      → Allows (Kept home source name_of plan) slots id m (slot_word slot) (λ n. (n + 1) % 2 ^ 64) (λ n m'. ForReader m.0 (λ p r. PinAdded home source p r m n m'))
+  adds_pin plan slots id number slot m of_plan reader may is s h deep at fits =
+      let k = known home source name_of plan s h id number m.0 at reader in let same = same_plan plan h.core id number m.0.core k in
+      subst (λ n. Steps (Kept home source name_of plan) s id m (slot_word n) (λ n. (n + 1) % 2 ^ 64) (λ n m'. ForReader m.0 (λ p r. PinAdded home source p r m n m'))) (ap (λ (q : Plan P). front_slot q.slots m.0.core.seen) same ∙ sym is)
+      (for_step (Kept home source name_of plan) s id (slot_word (front_slot h.core.slots m.0.core.seen)) m (λ n. (n + 1) % 2 ^ 64) (λ p r n m'. PinAdded home source p r m n m') plan (plan_here plan h.core) number of_plan reader same
+      (adds_at home source name_of plan s h id number m at reader may))
+
+  pub takes_pin : (plan : Plan P) (slots id number place_at : ℕ) (e : Entry) (m : Me (Cell P H) (Sitting P)) → m.0.plan ≡ Some plan → IsReader number m.0.core → MayTake place_at e m.0.core
+      → (e.held ≡ true → held_at e.slot m.0.core ≡ 1 → MayGivePlace home source plan m.0.core.seen (entry_number plan.slots m.0.core.seen e) (place e.slot number) m.1)
+      → Allows (Kept home source name_of plan) slots id m (slot_word e.slot) (λ n. (n + (2 ^ 64 - 1)) % 2 ^ 64) (λ n m'. ForReader m.0 (λ p r. PinTaken home source p place_at e m n m'))
+  takes_pin plan slots id number place_at e m of_plan reader may give s h deep at fits =
+      let k = known home source name_of plan s h id number m.0 at reader in let same = same_plan plan h.core id number m.0.core k in
+      for_step (Kept home source name_of plan) s id (slot_word e.slot) m (λ n. (n + (2 ^ 64 - 1)) % 2 ^ 64) (λ p r n m'. PinTaken home source p place_at e m n m') plan (plan_here plan h.core) number of_plan reader same
+      (takes_at home source name_of plan s h id number m at reader place_at e may
+      (subst (λ (q : Plan P). e.held ≡ true → held_at e.slot m.0.core ≡ 1 → MayGivePlace home source q m.0.core.seen (entry_number q.slots m.0.core.seen e) (place e.slot number) m.1) (sym same) give))

@@ -1,5 +1,5 @@
 -- What is known in a state that meets the rule, and what a step leaves of its words.
-use Rattle.std.proofs.Common.{◌≡◌, ◌≢◌, ℕ, zero, suc, ◌+◌, ◌*◌, ◌<◌, ◌≤◌, List, [], ◌∷◌, map, length, set, get_or, sym, refl, ap, ◌∙◌, subst, ⊎_elim, arith, Some}
+use Rattle.std.proofs.Common.{◌≡◌, ◌≢◌, ℕ, zero, suc, ◌+◌, ◌*◌, ◌<◌, ◌≤◌, List, [], ◌∷◌, map, length, take, set, get_or, true, sym, refl, ap, ◌∙◌, subst, ⊎_elim, arith, Some}
 use Rattle.std.proofs.Common.{get_or-set_other, get_or-set_same}
 use Rattle.std.proofs.Math.ListN.{length-set}
 use Rattle.std.proofs.lemmas.Bool.{cases_eq}
@@ -16,7 +16,16 @@ use Rattle.pin_core.specs.Lawful.{Lawful}
 use Rattle.pin_core.specs.Step.{HasReader, opening_state}
 use Rattle.pin_core.specs.Run.{Moves, moves_on}
 use Rattle.pin_core.specs.Packing.{packed_slot, packed_front, packed_turn}
+use Rattle.pin_core.specs.declared.view.Role.TheVariants as roles
+use Rattle.pin_book.specs.Replay.{replays}
+use Rattle.pin_book.proofs.Journals.{replays_take}
+use Rattle.pin_core.proofs.Readers.{part_of_journal}
+use Rattle.pin_core.proofs.Seats.{is_live}
+use Rattle.pin_core.proofs.Splits.{inside_of}
+use Rattle.pin_core.proofs.Stores.{has_own}
 use Rattle.pin_core.proofs.Runs.{reached}
+use Rattle.std.proofs.lemmas.Option.{same_Some}
+use Rattle.pin_table.specs.Plays.{ForReader}
 use Rattle.pin_core.proofs.Words.{count_here, count_else, number_here, number_else}
 use Rattle.pin_table.specs.declared.cell.Cell.{Cell}
 use Rattle.pin_table.specs.declared.sitting.Plan.{Plan}
@@ -79,16 +88,43 @@ turn_written words s t n h is slots front same = record {
 
 -- ---- states ----
 
-module _ {P H : Type 0} (home : P → H) (source : P → ℕ) (name_of : H → ℕ → List ℕ) where
-  -- a reader's seat in a state that meets the rule
-  pub record Known (plan : Plan P) (s : CoreState) (id number : ℕ) (v : View) : Type 0 where
-    pub lawful : Lawful s
-    pub some : 0 < s.slots
-    pub slots : s.slots ≡ plan.slots
-    pub readers : s.readers ≡ plan.readers
-    pub room : s.room ≡ plan.room
-    pub has : HasReader s id number v
+-- a reader's seat in a state that the steps reach
+pub record Known {P : Type 0} (plan : Plan P) (s : CoreState) (id number : ℕ) (v : View) : Type 0 where
+  pub lawful : Lawful s
+  pub some : 0 < s.slots
+  pub slots : s.slots ≡ plan.slots
+  pub readers : s.readers ≡ plan.readers
+  pub room : s.room ≡ plan.room
+  pub has : HasReader s id number v
 
+-- the plan with the sizes of the state
+abbrev pub plan_here : {P : Type 0} → Plan P → CoreState → Plan P
+plan_here plan s = record { slots = s.slots; readers = s.readers; room = s.room; first = plan.first }
+
+module _ {P : Type 0} (plan : Plan P) (s : CoreState) (id number : ℕ) (v : View) (k : Known plan s id number v) where
+  pub lives : v.role ≢ roles.Spent
+  lives = is_live number v k.has.reader
+
+  -- what the reader has seen is a front part of the journal
+  pub seen_part : take (length v.seen) s.journal ≡ v.seen
+  seen_part = (part_of_journal s id v k.lawful k.has.here lives).1
+
+  pub seen_replays : replays s.slots v.seen ≡ true
+  seen_replays = ap (replays s.slots) (sym seen_part) ∙ replays_take s.slots s.journal (length v.seen) k.lawful.follows.replay
+
+  pub reader_inside : number < s.readers
+  reader_inside = inside_of s.readers number v.numbers (k.lawful.owners.each id v k.has.here lives).inside (has_own number v k.has.reader.1)
+
+  pub same_plan : plan_here plan s ≡ plan
+  same_plan = λ i. record { slots = k.slots i; readers = k.readers i; room = k.room i; first = plan.first }
+
+-- a fact of the state's plan and the reader's number is that of what the seat says of them
+pub for_reader : {P : Type 0} (plan : Plan P) (number : ℕ) (v : Sitting P) (fact : Plan P → ℕ → Type 0) → v.plan ≡ Some plan → IsReader number v.core → fact plan number → ForReader v fact
+for_reader plan number v fact of_plan reader is p r of_p of_r =
+    let same = same_Some plan p (sym of_plan ∙ of_p) in let numbers = sym reader.1 ∙ of_r.1 in let same_number : number ≡ r = cc in
+    subst (λ (x : Plan _ × ℕ). fact x.0 x.1) (λ i. (same i, same_number i)) is
+
+module _ {P H : Type 0} (home : P → H) (source : P → ℕ) (name_of : H → ℕ → List ℕ) where
   pub known : (plan : Plan P) (s : State (Cell P H) (Sitting P)) (h : Kept home source name_of plan s) (id number : ℕ) (v : Sitting P) → get_elem? s.views id ≡ some v → IsReader number v.core
       → Known plan h.core id number v.core
   known plan s h id number v at reader =
@@ -128,3 +164,15 @@ module _ {S V : Type 0} where
   abbrev pub Steps : (State S V → Type 0) → State S V → ℕ → Me S V → ℕ → (ℕ → ℕ) → (ℕ → Me S V → Type 0) → Type 0
   Steps holds s id me i f then =
       (w : V) × (a : Act S) × Valid s.homes me.1 a × holds (stepped s i (f (slice_index s.words i)) id me.1 w a) × then (slice_index s.words i) (w, carried_after me.1 a)
+
+-- what a step tells of the state's plan and the reader's number, it tells of what the seat says of them
+pub for_step : {P S : Type 0} (holds : State S (Sitting P) → Type 0) (s : State S (Sitting P)) (id i : ℕ) (m : Me S (Sitting P)) (f : ℕ → ℕ) (fact : Plan P → ℕ → ℕ → Me S (Sitting P) → Type 0) (plan here : Plan P) (number : ℕ)
+    → m.0.plan ≡ Some plan → IsReader number m.0.core → here ≡ plan → Steps holds s id m i f (λ n m'. fact here number n m') → Steps holds s id m i f (λ n m'. ForReader m.0 (λ p r. fact p r n m'))
+for_step holds s id i m f fact plan here number of_plan reader same step = (
+  step.0,
+  step.1,
+  step.2,
+  step.3,
+  for_reader plan number m.0 (λ p r. fact p r (slice_index s.words i) (step.0, carried_after m.1 step.1)) of_plan reader
+      (subst (λ (q : Plan _). fact q number (slice_index s.words i) (step.0, carried_after m.1 step.1)) same step.4),
+)

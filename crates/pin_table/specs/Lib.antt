@@ -6,6 +6,7 @@ pub mod Carried
 pub mod Sources
 pub mod Places
 pub mod Rule
+pub mod Runs
 pub mod Plays
 pub mod Table
 pub mod Position

@@ -1,40 +1,84 @@
 -- What each atomic step tells the seat that makes it: what the word that it found shows, what the seat knows afterwards,
 -- and which places, or the book, it has then. What it knows is what pin_core's step makes of its view.
-use Rattle.std.specs.Prelude.{◌≡◌, ◌≢◌, ℕ, ◌+◌, ◌/◌, ◌%◌, ◌^◌, ◌<◌, ◌≤◌, true, false, Some, List, ◌∷◌, length, take, Contains}
+use Rattle.std.specs.Prelude.{◌≡◌, ◌≢◌, ℕ, ◌+◌, ◌/◌, ◌%◌, ◌^◌, ◌<◌, ◌≤◌, true, false, Some, None, List, [], ◌∷◌, ◌++◌, length, take, Contains}
+use mathlib.Core.Option.{some}
+use lib.ListN.{get_elem?}
 use Rattle.atomic_table.specs.Table.{Me, rest}
 use Rattle.pin_book.specs.declared.write.Write.{Write}
-use Rattle.pin_book.specs.Replay.{front_number, front_slot, kept_number, replays}
+use Rattle.pin_book.specs.Sequence.{writes_by}
+use Rattle.pin_book.specs.Replay.{front_number, front_slot, kept_number, is_taken, replays, state_after, allowed}
 use Rattle.pin_core.specs.declared.entry.Entry.{Entry}
-use Rattle.pin_core.specs.Core.{held_at}
+use Rattle.pin_core.specs.declared.view.View.{View}
+use Rattle.pin_core.specs.Core.{IsReader, held_at}
 use Rattle.pin_core.specs.Lawful.{entry_number}
-use Rattle.pin_core.specs.Step.{loaded, pinned, unpinned}
-use Rattle.pin_core.specs.Packing.{place}
+use Rattle.pin_core.specs.Step.{loaded, pinned, unpinned, got_turn, was_refused, gave_turn, stored, claiming, found_pinned, HasClaimed}
+use Rattle.pin_core.specs.Packing.{place, book_place, packed_slot, packed_turn}
 use Rattle.pin_table.specs.declared.cell.Cell.{Cell}
+use Rattle.pin_table.specs.declared.cell.Cell.TheVariants.{Desk}
 use Rattle.pin_table.specs.declared.sitting.Plan.{Plan}
 use Rattle.pin_table.specs.declared.sitting.Sitting.{Sitting}
 use Rattle.pin_table.specs.Seat.{knowing}
-use Rattle.pin_table.specs.Sources.{source_of}
+use Rattle.pin_table.specs.Runs.{run_from}
+use Rattle.pin_table.specs.Sources.{source_of, book_of}
 use Rattle.pin_table.specs.Places.{IsStocked}
 
--- the fact of the plan of the seat's table
-abbrev pub ForPlan : {P : Type 0} → Sitting P → (Plan P → Type 0) → Type 0
-ForPlan {P} v fact = (plan : Plan P) → v.plan ≡ Some plan → fact plan
+-- the fact of how the seat's table was made, and of the seat's reader number
+abbrev pub ForReader : {P : Type 0} → Sitting P → (Plan P → ℕ → Type 0) → Type 0
+ForReader {P} v fact = (plan : Plan P) (number : ℕ) → v.plan ≡ Some plan → IsReader number v.core → fact plan number
+
+-- What holds of the journal at a step of this reader: it goes on from what the reader has seen, it replays, and has room
+-- for what the reader may still write. The reader's own writes are its own part of it. Each slot where the reader has a
+-- handle keeps the handle's number after it, and each of its strays is older than the last write.
+pub record GoesOn (slots room number : ℕ) (v : View) (journal : List Write) : Type 0 where
+  pub grows : take (length v.seen) journal ≡ v.seen
+  pub replay : replays slots journal ≡ true
+  pub fits : length journal + v.allowance ≤ room
+  pub own : writes_by number journal ≡ v.own
+  pub handles : (e : Entry) → Contains v.entries e → e.held ≡ true → kept_number slots journal e.slot ≡ entry_number slots journal e
+  pub strays : (e : Entry) → Contains v.entries e → e.held ≡ false → e.position < length journal
+
+-- the word of a slot that no pin is at, with the number that the slot keeps after this journal
+abbrev pub unpinned_word : ℕ → List Write → ℕ → ℕ
+unpinned_word slots journal slot = packed_slot record { number = kept_number slots journal slot; count = 0 }
+
+-- the word of a slot that is claimed after this journal: it shows the number that comes next
+abbrev pub claimed_word : ℕ → List Write → ℕ
+claimed_word slots journal = packed_slot record { number = front_number slots journal + 1; count = 0 }
+
+-- Who has the turn has seen the whole journal, so what `MayClaim` asks of it is asked of what the reader has seen.
+pub record MayClaimSlot (slots : ℕ) (slot : ℕ) (v : View) : Type 0 where
+  pub turn : v.turn ≡ true
+  pub free : v.claimed ≡ None
+  pub inside : slot < slots
+  pub unlisted : is_taken slots v.seen slot ≡ false
+
+-- the same of what `MayStore` asks
+pub record MayWrite (slots number : ℕ) (write : Write) (v : View) : Type 0 where
+  pub turn : v.turn ≡ true
+  pub allowance : 0 < v.allowance
+  pub allows : allowed (state_after slots v.seen) write.change ≡ true
+  pub by : write.by ≡ number
+  pub seq : write.seq ≡ length v.own + 1
+  pub claimed : HasClaimed v.claimed write.change
 
 module _ {P H : Type 0} where
-  -- The front word that was loaded shows the front after a journal, which the seat has seen then. The journal goes on from
-  -- what the seat had seen, and after it each slot where the reader has a handle still keeps the handle's number.
-  pub record FrontLoaded (plan : Plan P) (m : Me (Cell P H) (Sitting P)) (found : ℕ) (m' : Me (Cell P H) (Sitting P)) : Type 0 where
+  -- the front word that was loaded shows the front after a journal, which the seat has seen then
+  pub record FrontLoaded (plan : Plan P) (number : ℕ) (m : Me (Cell P H) (Sitting P)) (found : ℕ) (m' : Me (Cell P H) (Sitting P)) : Type 0 where
     pub journal : List Write
     pub seat : m' ≡ (knowing (loaded journal m.0.core) m.0, m.1)
+    pub goes_on : GoesOn plan.slots plan.room number m.0.core journal
     pub w : found / 2 ^ 32 ≡ length journal
     pub n : found / 2 ^ 6 % 2 ^ 26 ≡ front_number plan.slots journal
     pub slot : found % 2 ^ 6 ≡ front_slot plan.slots journal
     pub inside : front_slot plan.slots journal < plan.slots
-    pub room : length journal ≤ plan.room
-    pub replay : replays plan.slots journal ≡ true
-    pub grows : take (length m.0.core.seen) journal ≡ m.0.core.seen
-    pub handles : (e : Entry) → Contains m.0.core.entries e → e.held ≡ true → kept_number plan.slots journal e.slot ≡ entry_number plan.slots journal e
-    pub strays : (e : Entry) → Contains m.0.core.entries e → e.held ≡ false → e.position < length journal
+
+  -- another reader has the turn
+  pub record TurnMissed (plan : Plan P) (number : ℕ) (m : Me (Cell P H) (Sitting P)) (found : ℕ) (m' : Me (Cell P H) (Sitting P)) : Type 0 where
+    pub holder : ℕ
+    pub seat : m' ≡ (knowing (was_refused (Some holder) m.0.core) m.0, m.1)
+    pub named : found ≡ packed_turn (Some holder)
+    pub other : holder ≢ number
+    pub inside : holder < plan.readers
 
   module _ (home : P → H) (source : P → ℕ) where
     -- the seat has taken a place, which is stocked with the version of this number
@@ -66,3 +110,52 @@ module _ {P H : Type 0} where
       pub last : e.held ≡ true → held_at e.slot m.0.core ≡ 1 → m'.1 ≡ rest m.1
       pub further : e.held ≡ true → 1 < held_at e.slot m.0.core → m'.1 ≡ m.1
       pub stray : e.held ≡ false → m'.1 ≡ m.1
+
+  module _ (home : P → H) (name_of : H → ℕ → List ℕ) where
+    -- the book of this journal, with its place
+    abbrev pub book_cell : Plan P → List Write → ℕ × Cell P H
+    book_cell plan journal = (book_place plan.slots, Desk (book_of name_of (home plan.first) plan.slots plan.room journal))
+
+    -- the reader has got the turn: it has seen the whole journal, and has the book
+    pub record TurnTaken (plan : Plan P) (number : ℕ) (m : Me (Cell P H) (Sitting P)) (m' : Me (Cell P H) (Sitting P)) : Type 0 where
+      pub journal : List Write
+      pub seat : m' ≡ (knowing (got_turn journal m.0.core) m.0, book_cell plan journal ∷ m.1)
+      pub goes_on : GoesOn plan.slots plan.room number m.0.core journal
+
+    -- An exchange of the turn word from nobody gets the turn where it finds nobody there, and else tells which other reader
+    -- has it.
+    pub record TurnTried (plan : Plan P) (number : ℕ) (m : Me (Cell P H) (Sitting P)) (found : ℕ) (m' : Me (Cell P H) (Sitting P)) : Type 0 where
+      pub won : found ≡ packed_turn None → TurnTaken plan number m m'
+      pub lost : found ≢ packed_turn None → TurnMissed plan number m found m'
+
+  -- the turn was given back, and the book with it
+  abbrev pub TurnGiven : Me (Cell P H) (Sitting P) → Me (Cell P H) (Sitting P) → Type 0
+  TurnGiven m m' = m' ≡ (knowing (gave_turn m.0.core) m.0, rest m.1)
+
+  -- the front word after an erase was stored
+  abbrev pub EraseStored : Write → Me (Cell P H) (Sitting P) → Me (Cell P H) (Sitting P) → Type 0
+  EraseStored write m m' = m' ≡ (knowing (stored write m.0.core) m.0, m.1)
+
+  -- the seat has all places of this slot, which it has claimed
+  pub record SlotClaimed (plan : Plan P) (slot : ℕ) (m m' : Me (Cell P H) (Sitting P)) : Type 0 where
+    pub cells : List (Cell P H)
+    pub many : length cells ≡ plan.readers
+    pub seat : m' ≡ (knowing (claiming slot m.0.core) m.0, run_from (place slot 0) cells ++ m.1)
+
+  -- An exchange of the slot's word from the number that the slot keeps and no pin claims the slot where it finds that, and
+  -- else finds the slot pinned.
+  pub record SlotTried (plan : Plan P) (slot : ℕ) (m : Me (Cell P H) (Sitting P)) (found : ℕ) (m' : Me (Cell P H) (Sitting P)) : Type 0 where
+    pub won : found ≡ unpinned_word plan.slots m.0.core.seen slot → SlotClaimed plan slot m m'
+    pub lost : found ≢ unpinned_word plan.slots m.0.core.seen slot → m' ≡ (knowing (found_pinned slot m.0.core) m.0, m.1)
+
+  -- the front word after a push was stored, and the places of its slot were given back
+  abbrev pub PushStored : Write → List (ℕ × Cell P H) → Me (Cell P H) (Sitting P) → Me (Cell P H) (Sitting P) → Type 0
+  PushStored write behind m m' = m' ≡ (knowing (stored write m.0.core) m.0, behind)
+
+  module _ (home : P → H) (source : P → ℕ) where
+    -- the seat has taken the places of this slot last, each stocked with versions of this source, and the others before
+    pub record HasStockedRun (plan : Plan P) (slot src : ℕ) (behind carried : List (ℕ × Cell P H)) : Type 0 where
+      pub cells : List (Cell P H)
+      pub many : length cells ≡ plan.readers
+      pub stocked : (i : ℕ) (cell : Cell P H) → get_elem? cells i ≡ some cell → IsStocked home source (home plan.first) src cell
+      pub is : carried ≡ run_from (place slot 0) cells ++ behind

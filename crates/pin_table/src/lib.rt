@@ -11,11 +11,13 @@ mod no_reader;
 mod opening;
 mod packing;
 mod parting;
+mod plays;
 mod position;
 mod reader;
 mod rule;
 mod shelf;
 mod sitting;
+mod steps;
 mod table;
 
 pub use cell::Cell;

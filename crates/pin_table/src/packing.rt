@@ -2,6 +2,9 @@
 ghost use Rattle.std.specs.Prelude.{◌≡◌, ◌<◌, ◌^◌, Some};
 ghost use Rattle.pin_core.specs.Packing.{packed_slot, packed_front, packed_turn};
 
+/// The turn word where nobody has the turn.
+pub(crate) const NOBODY: u64 = 0;
+
 /// Packs a slot's word: the number that the slot keeps, and how many pins are there.
 pub(crate) fn pack_slot(number: u32, count: u32) -> u64
     ensures { result ≡ packed_slot record { number = number; count = count } }
