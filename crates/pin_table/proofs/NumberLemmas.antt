@@ -1,5 +1,5 @@
 -- Which reader numbers a main has.
-use Rattle.std.proofs.Common.{[], ◌∷◌, ◌≡◌, ◌≢◌, ◌↔◌, ℕ, zero, suc, ◌+◌, ◌<◌, ◌≤◌, List, length, set, get_or, sym, refl, ap, ◌∙◌, ⊎_elim, arith, Bool, true, false, not, cond, ◌==◌, Option, Some, None, eq-eqb, ne_eqb, get_or-set_other, get_or-set_same}
+use Rattle.std.proofs.Common.{◌++◌, [], ◌∷◌, ◌≡◌, ◌≢◌, ◌↔◌, ℕ, zero, suc, ◌+◌, ◌<◌, ◌≤◌, List, length, set, get_or, sym, refl, ap, ◌∙◌, ⊎_elim, arith, Bool, true, false, not, cond, ◌==◌, Option, Some, None, eq-eqb, ne_eqb, get_or-set_other, get_or-set_same}
 use Rattle.std.specs.Prelude.{position, nat_lt}
 use Rattle.std.specs.List.{range_with_len, filter, position_or_len}
 use Rattle.std.proofs.lemmas.List.Quantifiers.{position-Some}
@@ -9,6 +9,7 @@ use Rattle.pin_core.specs.Core.{times, has_number, one_if}
 use Rattle.pin_core.specs.Step.{main_at_first, left_over, taken_in}
 use Rattle.pin_table.specs.Numbers.{IsLeast}
 use Rattle.pin_core.proofs.Opening.{opens}
+use Rattle.pin_core.proofs.Sums.{total-append}
 
 -- one more number is marked
 pub marks_more : (has : List Bool) (k : ℕ) → k < length has → ((n : ℕ) → (get_or has n false ≡ true) ↔ (n < k)) → (n : ℕ) → (get_or (set has k true) n false ≡ true) ↔ (n < k + 1)
@@ -94,3 +95,14 @@ marks_less has numbers place inside marked n = ⊎_elim
   where
     differ : (b : Bool) → b ≡ true → b ≡ false → ⊥
     differ b on off = absurd (cc)
+
+-- the marks after a number came back
+pub marks_back : (has : List Bool) (numbers others : List ℕ) (number : ℕ) → others ≡ number ∷ [] → number < length has → ((n : ℕ) → (0 < times n numbers) ↔ (get_or has n false ≡ true))
+    → (n : ℕ) → (0 < times n (numbers ++ others)) ↔ (get_or (set has number true) n false ≡ true)
+marks_back has numbers others number one inside marked n =
+    let sum : times n (numbers ++ others) ≡ times n numbers + one_if (number == n) = total-append (λ other. one_if (other == n)) numbers others ∙ (let last = ap (times n) one in omega arith) in
+    ⊎_elim
+    (λ (is : n ≡ number). let mine = ap one_if (eq-eqb number n (sym is)) in ((λ _. ap (λ k. get_or (set has number true) k false) is ∙ get_or-set_same has number true false inside), (λ _. omega arith)))
+    (λ (no : n ≢ number). let zero = ap one_if (ne_eqb number n (λ e. no (sym e))) in let kept = get_or-set_other has number n true false no in
+    ((λ some. kept ∙ (marked n).0 (omega arith)), (λ on. let old = (marked n).1 (sym kept ∙ on) in omega arith)))
+    (cases_eq n number)

@@ -1,18 +1,25 @@
 -- A split and a join keep the rule.
-use Rattle.std.proofs.Common.{◌≡◌, ◌≢◌, ℕ, ◌<◌, ◌≤◌, List, [], ◌∷◌, ◌++◌, map, set, sym, ap, ◌∙◌, false, Some}
+use Rattle.std.proofs.Common.{subst, arith, length, ◌≡◌, ◌≢◌, ℕ, ◌^◌, ◌<◌, ◌≤◌, List, [], ◌∷◌, ◌++◌, map, set, sym, ap, ◌∙◌, false, Some}
+use Rattle.std.specs.Prelude.{nat_lt}
+use Rattle.std.proofs.lemmas.Bool.{cond-true, cond-false, lt-ltb, le-ltb}
 use Rattle.std.proofs.lemmas.List.{map-append}
+use Rattle.pin_book.specs.declared.write.Write.{Write}
+use Rattle.pin_table.specs.declared.position.Position.{Position}
+use Rattle.pin_table.specs.Position.{IsAfter}
 use mathlib.Core.Option.{some}
 use lib.ListN.{get_elem?}
 use lib.Seq.{map-set}
-use Rattle.atomic_table.specs.Table.{Splits, Joins}
+use Rattle.atomic_table.specs.Table.{State, Splits, Joins}
 use Rattle.atomic_table.proofs.Lists.{set_else}
 use Rattle.pin_core.specs.declared.view.View.{View}
 use Rattle.pin_core.specs.declared.view.Role.TheVariants as roles
-use Rattle.pin_core.specs.Core.{has_number, spent}
+use Rattle.pin_core.specs.Core.{allowance_of, has_number, spent}
 use Rattle.pin_core.specs.Packing.{place}
 use Rattle.pin_core.specs.Step.{MaySplit, MayJoin, left_over, split_off, taken_in, split, join}
 use Rattle.pin_core.specs.Run.{moves_on, splits, joins}
+use Rattle.pin_core.proofs.Sums.{term_le}
 use Rattle.pin_core.proofs.AtHome.{split_home, join_home}
+use Rattle.pin_table.specs.declared.cell.Cell.{Cell}
 use Rattle.pin_table.specs.declared.sitting.Plan.{Plan}
 use Rattle.pin_table.specs.declared.sitting.Sitting.{Sitting}
 use Rattle.pin_table.specs.Seat.{core_of, spent_sitting}
@@ -74,3 +81,20 @@ module _ {P H : Type 0} (home : P → H) (source : P → ℕ) (name_of : H → �
           book = h.homes.book;
         };
       }
+
+  -- no seat of a table has an allowance past the room
+  pub too_much : (id : ℕ) (v : Sitting P) (s : State (Cell P H) (Sitting P)) → Kept home source name_of plan s → get_elem? s.views id ≡ some v → 2 ^ 32 ≤ v.core.allowance → ⊥
+  too_much id v s h at much =
+      let lawful = kept_lawful home source name_of plan s h in let room = lawful.room in let size = (kept_sizes home source name_of plan s h).2 in let few = h.sizes.few_writes in
+      let mine = term_le allowance_of h.core.views id v.core (kept_view home source name_of plan s h id v at) in omega arith
+
+-- the later of two positions is that of the longer journal
+pub later_position : (slots others : ℕ) (v w : View) (mine its : Position) → others ≡ slots → IsAfter slots v.seen mine → IsAfter others w.seen its → mine.w < its.w → IsAfter slots (taken_in v w).seen its
+later_position slots others v w mine its same a b less = let short = a.w in let long = b.w in
+    let seen : (taken_in v w).seen ≡ w.seen = cond-true (nat_lt (length v.seen) (length w.seen)) w.seen v.seen (lt-ltb _ _ (omega arith)) in
+    subst (λ (l : List Write). IsAfter slots l its) (sym seen) (subst (λ n. IsAfter n w.seen its) same b)
+
+pub same_position : (slots others : ℕ) (v w : View) (mine its : Position) → IsAfter slots v.seen mine → IsAfter others w.seen its → its.w ≤ mine.w → IsAfter slots (taken_in v w).seen mine
+same_position slots others v w mine its a b most = let long = a.w in let short = b.w in
+    let seen : (taken_in v w).seen ≡ v.seen = cond-false (nat_lt (length v.seen) (length w.seen)) w.seen v.seen (le-ltb _ _ (omega arith)) in
+    subst (λ (l : List Write). IsAfter slots l mine) (sym seen) a

@@ -7,7 +7,7 @@ ghost use Rattle.pin_table.specs.Position.{IsAfter, slots_of_plan};
 
 use crate::exchange::Carried;
 use crate::no_reader::NoReader;
-use crate::parting::part;
+use crate::parting::{meet, no_overflow, part};
 use crate::position::Position;
 use crate::reader::Reader;
 use crate::rule::Chair;
@@ -27,13 +27,14 @@ pub struct Main<P: Payload> {
     seen: Position,
     pub ghost role: { seat.me.0.core.role ≡ roles.Main },
     pub ghost carries_none: { length seat.me.1 ≡ 0 },
+    ghost long: { length has ≡ READER_NUMBERS },
     ghost numbers: { (number : ℕ) → (0 < has_number number seat.me.0.core) ↔ IsTrue (slice_index_or has number false) },
     ghost allowed: { allowance ≡ seat.me.0.core.allowance },
     ghost position: { IsAfter (slots_of_plan seat.me.0.plan) seat.me.0.core.seen seen },
 }
 
 impl<P: Payload> Main<P> {
-    ghost use Rattle.pin_core.specs.Step.{main_at_first};
+    ghost use Rattle.pin_core.specs.Step.{main_at_first, taken_in};
     ghost use Rattle.pin_table.specs.Main.{main_view};
     ghost use Rattle.pin_table.specs.Reader.{reader_view};
     ghost use Rattle.pin_table.specs.Numbers.{SplitsLeast};
@@ -90,6 +91,34 @@ impl<P: Payload> Main<P> {
         })
     }
 
+    /// Takes a reader of this table that holds no handle back in, with all that it had seen and the writes that it may
+    /// still make.
+    pub fn join(&mut self, reader: Reader<P>)
+        requires own { IsMainOf reader.table.now self.old }
+        requires released { (reader_view reader).entries ≡ [] }
+        ensures joined { main_view self.new ≡ taken_in (main_view self.old) (reader_view reader.entry) }
+        ensures own { IsMainOf reader.entry.table.now self.new }
+    {
+        let Reader {
+            table,
+            seat,
+            carried: _,
+            number,
+            allowance,
+            seen,
+            entries: _,
+        } = reader;
+        meet(table, &mut self.seat, seat);
+        self.has[number as usize] = true;
+        self.allowance = match self.allowance.checked_add(allowance) {
+            Some(all) => all,
+            None => no_overflow(table, &mut self.seat),
+        };
+        if self.seen.w < seen.w {
+            self.seen = seen;
+        }
+    }
+
     /// Returns the seat alone.
     pub(crate) fn into_seat(self) -> Chair<P>
         ensures { result ≡ self.seat }
@@ -114,7 +143,8 @@ impl<P: Payload> Main<P> {
 /// The numbers that the main of a new table has: all.
 fn first_numbers(readers: u32) -> [bool; READER_NUMBERS]
     requires { readers ≤ READER_NUMBERS }
-    ensures { (number : ℕ) → IsTrue (slice_index_or result number false) ↔ (number < readers) }
+    ensures marks { (number : ℕ) → IsTrue (slice_index_or result number false) ↔ (number < readers) }
+    ensures long { length result ≡ READER_NUMBERS }
 {
     let mut has = [false; READER_NUMBERS];
     for number in 0..readers as usize {

@@ -2,16 +2,17 @@
 //!
 //! Which number goes out, and with how many writes, is known at run time alone, so the call that splits picks both as
 //! ghost members. The step itself loads a word, as the base's splits and joins do.
-ghost use Rattle.std.specs.Prelude.{◌≡◌, ◌<◌, ◌≤◌, [], false};
+ghost use Rattle.std.specs.Prelude.{◌≡◌, ◌^◌, ◌<◌, ◌≤◌, [], false};
 ghost use Rattle.pin_core.specs.Core.{has_number};
 ghost use Rattle.pin_core.specs.declared.view.Role.TheVariants as roles;
 ghost use Rattle.pin_table.specs.Parting.{left_sitting, right_sitting, joined_sitting};
 ghost use Rattle.pin_table.specs.Table.{IsAt};
 
+use crate::layout::FRONT_WORD;
 use crate::rule::Chair;
 use crate::sitting::Sitting;
 use crate::table::PinTable;
-use atomic_table::{Join, Split};
+use atomic_table::{Join, Play, Split};
 use pin_book::Payload;
 use std::marker::{Brand, PhantomData};
 
@@ -103,4 +104,20 @@ pub(crate) fn meet<P: Payload>(table: &PinTable<P>, seat: &mut Chair<P>, other: 
     ensures both { seat.new.me ≡ (joined_sitting seat.old.me.0 other.me.0, seat.old.me.1) }
 {
     table.base.shared.join_seat::<Meets>(seat, other);
+}
+
+/// A load that never comes: no table has a seat that may make or hand out so many writes.
+pub struct Never;
+
+impl<S, V> Play<S, V> for Never {
+    ghost then = { λ _ _ _ _. ⊥ };
+}
+
+/// Shows that the main's allowance fits its type. The rule says so at each step, and no call of this is ever made.
+pub(crate) fn no_overflow<P: Payload>(table: &PinTable<P>, seat: &mut Chair<P>) -> !
+    requires own { IsAt table.now seat.old }
+    requires much { 2 ^ 32 ≤ seat.old.me.0.core.allowance }
+{
+    table.base.shared.load::<Never>(seat, FRONT_WORD);
+    unreachable!()
 }

@@ -1,4 +1,4 @@
-use Rattle.std.proofs.Common.{◌≡◌, ◌<◌, ◌-◌, ◌↔◌, true, false, set, get_or, ◌∙◌, [], refl, ap, sym, subst, arith, length}
+use Rattle.std.proofs.Common.{◌≡◌, ◌<◌, ◌-◌, ◌↔◌, true, false, set, get_or, ◌∙◌, [], refl, ap, sym, subst, arith, length, length-set}
 use Rattle.pin_core.specs.Core.{times, has_number}
 use Rattle.pin_core.specs.Step.{left_over, split_off}
 use Rattle.pin_table.specs.Parting.{readers_of_plan}
@@ -18,6 +18,7 @@ invariant_of-self g c = let left = c.part-seat.ensures.left in let first = first
     let core = ap (λ m. m.0.core) left in record {
       role = ap (λ v. v.role) core ∙ c.args.self.now.role;
       carries_none = ap (λ m. length m.1) left ∙ c.args.self.now.carries_none;
+      long = length-set c.args.self.now.has c.in-Some.place false ∙ c.args.self.now.long;
       numbers = λ number. subst (λ v. (0 < has_number number v) ↔ (get_or (set c.args.self.now.has c.in-Some.place false) number false ≡ true)) (sym core)
           (marks_less c.args.self.now.has c.args.self.now.seat.me.0.core.numbers c.in-Some.place first.0 c.args.self.now.numbers number);
       allowed = ap (λ n. n - c.args.writes) c.args.self.now.allowed ∙ sym (ap (λ v. v.allowance) core);
