@@ -1,5 +1,5 @@
 -- A store of the front word, after an erase or a push, keeps the rule.
-use Rattle.std.proofs.Common.{◌≡◌, ◌≢◌, ◌⊎◌, ℕ, ◌+◌, ◌*◌, ◌^◌, ◌<◌, ◌≤◌, List, [], ◌∷◌, ◌++◌, length, set, get_or, refl, sym, ap, ◌∙◌, subst, ⊎_elim, inl, inr, arith, true, Option, Some, None}
+use Rattle.std.proofs.Common.{◌≡◌, ◌≢◌, ◌⊎◌, ℕ, ◌+◌, ◌*◌, ◌^◌, ◌<◌, ◌≤◌, List, [], ◌∷◌, ◌++◌, length, set, drop, get_or, refl, sym, ap, ◌∙◌, subst, ⊎_elim, inl, inr, arith, true, Option, Some, None}
 use Rattle.std.specs.Prelude.{slice_index}
 use mathlib.Core.Option as maybe
 use mathlib.Core.Option.{some}
@@ -29,11 +29,11 @@ use Rattle.pin_table.specs.Sources.{source_of}
 use Rattle.pin_table.specs.Runs.{run_from, gives_run}
 use Rattle.pin_table.specs.Places.{IsStocked, IsPlaceAt, StandsAtHome, IsBookAt}
 use Rattle.pin_table.specs.Rule.{Kept}
-use Rattle.pin_table.specs.Plays.{MayWrite, EraseStored, PushStored, HasStockedRun, stored_word}
+use Rattle.pin_table.specs.Plays.{ForReader, MayWrite, EraseStored, PushStored, HasStockedRun, stored_word}
 use Rattle.pin_table.proofs.SourceLemmas.{source_stays, source_pushed}
 use Rattle.pin_table.proofs.RunLemmas.{carried_given, given_else, given_here, given_length, given_valid, within_run}
 use Rattle.pin_table.proofs.ClaimMoves.{run_apart}
-use Rattle.pin_table.proofs.StepLemmas.{front_written, Known, known, after_step, Steps, lives}
+use Rattle.pin_table.proofs.StepLemmas.{front_written, Known, known, after_step, Steps, lives, for_step}
 
 -- a push that the journal allows lists the version of the next number
 next_number : (slots : ℕ) (journal : List Write) (change : Change) (n src slot : ℕ) → allowed (state_after slots journal) change ≡ true → change ≡ Push n src slot → n ≡ front_number slots journal + 1
@@ -118,7 +118,10 @@ module _ {P H : Type 0} (home : P → H) (source : P → ℕ) (name_of : H → �
 
   -- ---- a push ----
 
-  module _ (n src slot : ℕ) (push : write.change ≡ Push n src slot) (behind : List (ℕ × Cell P H)) (run : HasStockedRun home source plan slot src behind m.1) where
+  module _ (n src slot : ℕ) (push : write.change ≡ Push n src slot) (run : HasStockedRun home source plan slot src m.1) where
+    abbrev behind : List (ℕ × Cell P H)
+    behind = drop plan.readers m.1
+
     abbrev cells : List (Cell P H)
     cells = run.cells
 
@@ -161,7 +164,7 @@ module _ {P H : Type 0} (home : P → H) (source : P → ℕ) (name_of : H → �
       book = store_book (IsBookAt home source name_of homes' plan) core id number v write k.lawful k.has allowed_store;
     }
 
-    pub pushes_at : Steps (Kept home source name_of plan) s id m FRONT_WORD (λ _. new) (λ n m'. PushStored write behind m m')
+    pub pushes_at : Steps (Kept home source name_of plan) s id m FRONT_WORD (λ _. new) (λ n m'. PushStored plan write m m')
     pushes_at = (
       w,
       gives_run (length cells),
@@ -175,7 +178,9 @@ module _ {P H : Type 0} (home : P → H) (source : P → ℕ) (name_of : H → �
       → Allows (Kept home source name_of plan) slots id m FRONT_WORD (λ _. stored_word plan.slots (m.0.core.seen ++ write ∷ [])) (λ _ m'. EraseStored write m m')
   stores_erase plan slots id number after gone write m reader may erase s h deep at fits = erases_at home source name_of plan s h id number m at reader write may after gone erase
 
-  pub stores_push : (plan : Plan P) (slots id number n src slot : ℕ) (write : Write) (behind : List (ℕ × Cell P H)) (m : Me (Cell P H) (Sitting P)) → IsReader number m.0.core → MayWrite plan.slots number write m.0.core
-      → write.change ≡ Push n src slot → HasStockedRun home source plan slot src behind m.1
-      → Allows (Kept home source name_of plan) slots id m FRONT_WORD (λ _. stored_word plan.slots (m.0.core.seen ++ write ∷ [])) (λ _ m'. PushStored write behind m m')
-  stores_push plan slots id number n src slot write behind m reader may push run s h deep at fits = pushes_at home source name_of plan s h id number m at reader write may n src slot push behind run
+  pub stores_push : (plan : Plan P) (slots id number n src slot : ℕ) (write : Write) (m : Me (Cell P H) (Sitting P)) → IsReader number m.0.core → MayWrite plan.slots number write m.0.core
+      → m.0.plan ≡ Some plan → write.change ≡ Push n src slot → HasStockedRun home source plan slot src m.1
+      → Allows (Kept home source name_of plan) slots id m FRONT_WORD (λ _. stored_word plan.slots (m.0.core.seen ++ write ∷ [])) (λ _ m'. ForReader m.0 (λ p r. PushStored p write m m'))
+  stores_push plan slots id number n src slot write m reader may of_plan push run s h deep at fits =
+      for_step (Kept home source name_of plan) s id FRONT_WORD m (λ _. stored_word plan.slots (m.0.core.seen ++ write ∷ [])) (λ p r n m'. PushStored p write m m') plan plan number of_plan reader refl
+      (pushes_at home source name_of plan s h id number m at reader write may n src slot push run)

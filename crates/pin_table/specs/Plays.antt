@@ -1,10 +1,12 @@
 -- What each atomic step tells the seat that makes it: what the word that it found shows, what the seat knows afterwards,
 -- and which places, or the book, it has then. What it knows is what pin_core's step makes of its view.
-use Rattle.std.specs.Prelude.{◌≡◌, ◌≢◌, ℕ, ◌+◌, ◌/◌, ◌%◌, ◌^◌, ◌<◌, ◌≤◌, true, false, Some, None, List, [], ◌∷◌, ◌++◌, length, take, Contains}
+use Rattle.std.specs.Prelude.{◌≡◌, ◌≢◌, ℕ, ◌+◌, ◌/◌, ◌%◌, ◌^◌, ◌<◌, ◌≤◌, true, false, Some, None, List, [], ◌∷◌, ◌++◌, length, take, drop, Contains}
 use mathlib.Core.Option.{some}
 use lib.ListN.{get_elem?}
 use Rattle.atomic_table.specs.Table.{Me, rest}
 use Rattle.pin_book.specs.declared.write.Write.{Write}
+use Rattle.pin_book.specs.declared.write.Change.{Change}
+use Rattle.pin_book.specs.declared.write.Change.TheVariants.{Push, Erase}
 use Rattle.pin_book.specs.Sequence.{writes_by}
 use Rattle.pin_book.specs.Replay.{front_number, front_slot, kept_number, is_taken, replays, state_after, allowed}
 use Rattle.pin_core.specs.declared.entry.Entry.{Entry}
@@ -64,6 +66,11 @@ pub record MayWrite (slots number : ℕ) (write : Write) (v : View) : Type 0 whe
   pub by : write.by ≡ number
   pub seq : write.seq ≡ length v.own + 1
   pub claimed : HasClaimed v.claimed write.change
+
+-- the change is an erase
+abbrev pub IsErase : Change → Type 0
+IsErase (Push n src slot) = ⊥
+IsErase (Erase after gone) = Unit {0}
 
 module _ {P H : Type 0} where
   -- the front word that was loaded shows the front after a journal, which the seat has seen then
@@ -152,14 +159,19 @@ module _ {P H : Type 0} where
     pub won : found ≡ unpinned_word plan.slots m.0.core.seen slot → SlotClaimed plan slot m m'
     pub lost : found ≢ unpinned_word plan.slots m.0.core.seen slot → m' ≡ (knowing (found_pinned slot m.0.core) m.0, m.1)
 
-  -- the front word after a push was stored, and the places of its slot were given back
-  abbrev pub PushStored : Write → List (ℕ × Cell P H) → Me (Cell P H) (Sitting P) → Me (Cell P H) (Sitting P) → Type 0
-  PushStored write behind m m' = m' ≡ (knowing (stored write m.0.core) m.0, behind)
+  -- the front word after a push was stored, and the places of its slot, which the seat had taken last, were given back
+  abbrev pub PushStored : Plan P → Write → Me (Cell P H) (Sitting P) → Me (Cell P H) (Sitting P) → Type 0
+  PushStored plan write m m' = m' ≡ (knowing (stored write m.0.core) m.0, drop plan.readers m.1)
 
   module _ (home : P → H) (source : P → ℕ) where
-    -- the seat has taken the places of this slot last, each stocked with versions of this source, and the others before
-    pub record HasStockedRun (plan : Plan P) (slot src : ℕ) (behind carried : List (ℕ × Cell P H)) : Type 0 where
+    -- the seat has taken the places of this slot last, each stocked with versions of this source
+    pub record HasStockedRun (plan : Plan P) (slot src : ℕ) (carried : List (ℕ × Cell P H)) : Type 0 where
       pub cells : List (Cell P H)
       pub many : length cells ≡ plan.readers
       pub stocked : (i : ℕ) (cell : Cell P H) → get_elem? cells i ≡ some cell → IsStocked home source (home plan.first) src cell
-      pub is : carried ≡ run_from (place slot 0) cells ++ behind
+      pub is : carried ≡ run_from (place slot 0) cells ++ drop plan.readers carried
+
+    -- the change is a push, and the seat has taken the places of its slot last, stocked with versions of its source
+    abbrev pub PushesStocked : Plan P → Change → List (ℕ × Cell P H) → Type 0
+    PushesStocked plan (Push n src slot) carried = HasStockedRun plan slot src carried
+    PushesStocked plan (Erase after gone) carried = ⊥

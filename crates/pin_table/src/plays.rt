@@ -24,6 +24,30 @@ impl WhichPin for Brand {
     ghost entry = { record { slot = 0; position = 0; held = false } };
 }
 
+/// Which slot a reader claims. A call picks it.
+pub trait WhichSlot {
+    ghost use Rattle.std.specs.Prelude.{ℕ};
+
+    ghost slot: { ℕ };
+}
+
+impl WhichSlot for Brand {
+    ghost slot = { 0 };
+}
+
+/// Which write a reader makes. A call picks it.
+pub trait WhichWrite {
+    ghost use Rattle.pin_book.specs.declared.write.Write.{Write};
+
+    ghost write: { Write };
+}
+
+impl WhichWrite for Brand {
+    ghost use Rattle.pin_book.specs.declared.write.Change.TheVariants.{Erase};
+
+    ghost write = { record { by = 0; seq = 0; change = Erase 0 0 } };
+}
+
 /// A load of the front word.
 pub struct LoadFront<P> {
     marker: PhantomData<P>,
@@ -75,4 +99,37 @@ impl<P: Payload> Play<Cell<P>, Sitting<P>> for GiveTurn {
     ghost use Rattle.pin_table.specs.Plays.{TurnGiven};
 
     ghost then = { λ st m n m'. TurnGiven m m' };
+}
+
+/// An exchange of a slot's word from the number that it keeps and no pin to the number that comes next.
+pub struct TryClaim<P, W> {
+    marker: PhantomData<(P, W)>,
+}
+
+impl<P: Payload, W: WhichSlot> Play<Cell<P>, Sitting<P>> for TryClaim<P, W> {
+    ghost use Rattle.pin_table.specs.Plays.{ForReader, SlotTried};
+
+    ghost then = { λ st m n m'. ForReader m.0 (λ plan number. SlotTried plan W.slot m n m') };
+}
+
+/// A store of the front word after an erase.
+pub struct StoreErase<W> {
+    marker: PhantomData<W>,
+}
+
+impl<P: Payload, W: WhichWrite> Play<Cell<P>, Sitting<P>> for StoreErase<W> {
+    ghost use Rattle.pin_table.specs.Plays.{EraseStored};
+
+    ghost then = { λ st m n m'. EraseStored W.write m m' };
+}
+
+/// A store of the front word after a push.
+pub struct StorePush<P, W> {
+    marker: PhantomData<(P, W)>,
+}
+
+impl<P: Payload, W: WhichWrite> Play<Cell<P>, Sitting<P>> for StorePush<P, W> {
+    ghost use Rattle.pin_table.specs.Plays.{ForReader, PushStored};
+
+    ghost then = { λ st m n m'. ForReader m.0 (λ plan number. PushStored plan W.write m m') };
 }
