@@ -7,8 +7,10 @@ ghost use Rattle.pin_table.specs.Position.{IsAfter};
 ghost use Rattle.pin_table.specs.Table.{IsAt};
 
 use crate::exchange::Carried;
+use crate::packing::unpack_front;
 use crate::position::Position;
 use crate::rule::Chair;
+use crate::steps::load_front;
 use crate::table::PinTable;
 use arrayvec::ArrayVec;
 use pin_book::Payload;
@@ -40,4 +42,17 @@ pub struct Reader<'t, P: Payload> {
     ghost pins: { entries.items ≡ seat.me.0.core.entries },
     ghost carries: { carried ≡ slots_of seat.me.1 },
     pub ghost carries_none: { length seat.me.0.core.entries ≡ 0 → length seat.me.1 ≡ 0 },
+}
+
+impl<'t, P: Payload> Reader<'t, P> {
+    ghost use Rattle.pin_table.specs.Reader.{Looks};
+
+    /// Loads the front word, and returns the front that it shows.
+    pub fn look(&mut self) -> Position
+        ensures { Looks self.old self.new result }
+    {
+        let found = load_front(self.table, &mut self.seat, self.number);
+        self.seen = unpack_front(found);
+        self.seen
+    }
 }
