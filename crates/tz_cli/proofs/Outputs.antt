@@ -3,8 +3,8 @@ use Rattle.std.proofs.Common.{◌≡◌, ℕ, ◌⊎◌, inl, inr, List, ◌++�
 use Rattle.std.specs.declared.alloc.Global.{Global}
 use Rattle.tz_io.specs.Sink.{Appends, AppendsPart}
 use Rattle.tz_types.specs.declared.source.Source.{Source}
-use Rattle.tz_cli.specs.NamedText.{NamedText, IsSourceOf}
-use Rattle.tz_cli.specs.Command.{Command}
+use Rattle.tz_words.specs.NamedText.{NamedText, IsSourceOf}
+use Rattle.tz_words.specs.Command.{Command}
 use Rattle.tz_cli.specs.Answer.{OfSource, comes_in_pieces}
 use Rattle.tz_cli.specs.Outcome.{FileContents, IsDueFor}
 use Rattle.tz_cli.specs.Refusal.{Gives}
@@ -13,8 +13,8 @@ use Rattle.tz_cli.specs.declared.output.Output.{Output}
 use Rattle.tz_cli.specs.declared.output.Output.TheVariants as outputs
 use Rattle.tz_cli.specs.declared.refusal.Refusal.{Refusal}
 use Rattle.tz_cli.specs.declared.refusal.Refusal.TheVariants as refusals
-use Rattle.tz_cli.specs.declared.status.Status.{Status}
-use Rattle.tz_cli.specs.declared.status.Status.TheVariants as statuses
+use Rattle.tz_words.specs.declared.status.Status.{Status}
+use Rattle.tz_words.specs.declared.status.Status.TheVariants as statuses
 
 pub gives_line : (answers : Status → List ℕ → Type 0) (outcome : Result (Vec ℕ Global) Refusal) → Gives answers outcome → GivesOutput answers (as_output outcome)
 gives_line answers (Ok line) given = given

@@ -4,10 +4,10 @@ use Rattle.std.specs.List.{AllZip}
 use Rattle.tz_types.specs.declared.limit.TheConstants.{MOST_BYTES}
 use Rattle.tz_types.specs.Source.{bytes_together}
 use Rattle.tz_io.specs.Counts.{Rose}
-use Rattle.tz_cli.specs.Command.{Command, IsCommand, IsNoCommand, files_of}
+use Rattle.tz_words.specs.Command.{Command, IsCommand, IsNoCommand, files_of}
 use Rattle.tz_cli.specs.Answer.{IsAnswer, comes_in_pieces}
-use Rattle.tz_cli.specs.declared.status.Status.{Status}
-use Rattle.tz_cli.specs.declared.status.Status.TheVariants as statuses
+use Rattle.tz_words.specs.declared.status.Status.{Status}
+use Rattle.tz_words.specs.declared.status.Status.TheVariants as statuses
 
 -- the content of each file, by its name
 abbrev pub FileContents : Type 0
@@ -76,19 +76,3 @@ abbrev pub IsDue : List (List ℕ) → Option FileContents → (List ℕ → Typ
 IsDue words told failed statuses.Usage line = IsNoCommand words × (line ≡ codes "usage\n")
 IsDue words told failed status line =
     (command : Command) × IsCommand words command × IsDueFor command told failed status line
-
--- the number with which the program ends
-abbrev pub exit_code : Status → ℕ
-exit_code statuses.Ok = 0
-exit_code statuses.Usage = 2
-exit_code statuses.Text = 3
-exit_code statuses.Script = 4
-exit_code statuses.Read = 5
-exit_code statuses.Write = 6
-exit_code statuses.Memory = 7
-exit_code statuses.NoZone = 8
-exit_code statuses.Range = 9
-exit_code statuses.Local = 10
-exit_code statuses.TooLarge = 11
-exit_code statuses.Types = 14
-exit_code statuses.Designations = 15

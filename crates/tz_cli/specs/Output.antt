@@ -6,8 +6,8 @@ use Rattle.tz_cli.specs.Refusal.{IsRefusal}
 use Rattle.tz_cli.specs.declared.output.Output.{Output}
 use Rattle.tz_cli.specs.declared.output.Output.TheVariants as outputs
 use Rattle.tz_cli.specs.declared.refusal.Refusal.{Refusal}
-use Rattle.tz_cli.specs.declared.status.Status.{Status}
-use Rattle.tz_cli.specs.declared.status.Status.TheVariants as statuses
+use Rattle.tz_words.specs.declared.status.Status.{Status}
+use Rattle.tz_words.specs.declared.status.Status.TheVariants as statuses
 
 -- all that is printed
 abbrev pub output_text : Output → List ℕ

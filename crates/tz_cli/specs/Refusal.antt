@@ -5,8 +5,8 @@ use Rattle.tz_types.specs.declared.source.Source.{Source}
 use Rattle.tz_cli.specs.Line.{fault_line}
 use Rattle.tz_specs.specs.Reads as texts
 use Rattle.tz_cli.specs.Outcome.{FileContents, MayRead, FailsToRead, ReadsTooMuch}
-use Rattle.tz_cli.specs.declared.status.Status.{Status}
-use Rattle.tz_cli.specs.declared.status.Status.TheVariants as statuses
+use Rattle.tz_words.specs.declared.status.Status.{Status}
+use Rattle.tz_words.specs.declared.status.Status.TheVariants as statuses
 use Rattle.tz_cli.specs.declared.refusal.Refusal.{Refusal}
 use Rattle.tz_cli.specs.declared.refusal.Refusal.TheVariants as refusals
 

@@ -2,17 +2,16 @@
 ghost use Rattle.std.specs.Prelude.{◌≡◌, ◌≤◌, ℕ, List, ◌∷◌, [], length, IfOk, IfErr, OnOk};
 ghost use Rattle.tz_types.specs.declared.limit.TheConstants.{MOST_BYTES};
 ghost use Rattle.tz_types.specs.Source.{bytes_together};
-ghost use Rattle.tz_cli.specs.NamedText.{parts_of};
-ghost use Rattle.tz_cli.specs.Command.{files_of, leap_files, meant};
+ghost use Rattle.tz_words.specs.NamedText.{parts_of};
+ghost use Rattle.tz_words.specs.Command.{files_of, leap_files, meant};
 ghost use Rattle.tz_cli.specs.Outcome.{MayRead, MayReadAll, Failed};
 ghost use Rattle.tz_cli.specs.Refusal.{RefusesFile, RefusesContents};
 
-use crate::command_line::CommandLine;
 use crate::refusal::Refusal;
-use crate::text_word::first_name;
 use std::alloc::Global;
 use tz_io::{FileError, Files};
 use tz_types::{Items, MOST_BYTES, Text};
+use tz_words::{CommandLine, first_name};
 
 /// The content of a file, where it has no more bytes than are left to read.
 fn read_file<F: Files>(

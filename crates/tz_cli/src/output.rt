@@ -5,13 +5,13 @@ ghost use Rattle.tz_io.specs.Sink.{Appends, AppendsPart};
 ghost use Rattle.tz_cli.specs.Dumping.{compiled_texts};
 ghost use Rattle.tz_cli.specs.Output.{output_text, output_status, is_in_pieces};
 
-use crate::Status;
 use crate::dump::{Stop, write_zones};
 use crate::printout::print;
 use crate::zone_dump::ZoneDump;
 use std::alloc::Global;
 use std::thread::Threads;
 use tz_io::Sink;
+use tz_words::Status;
 
 /// What a command prints: a line, lines or a file that were made whole, or a dump of zones, whose text is made group
 /// by group. `Undecided` is the line of a local time that stands for an instant only by a choice, where none is made.

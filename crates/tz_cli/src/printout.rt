@@ -4,10 +4,10 @@ ghost use Rattle.tz_io.specs.Counts.{Rose};
 ghost use Rattle.tz_io.specs.Sink.{Appends, AppendsPart};
 ghost use Rattle.tz_cli.specs.Refusal.{refusal_status, refusal_line};
 
-use crate::Status;
 use crate::refusal::Refusal;
 use std::alloc::Global;
 use tz_io::{Sink, put_all};
+use tz_words::Status;
 
 /// Prints a line, and answers its status, or `Write` where only a part of it was taken.
 pub fn print<S: Sink>(sink: &mut S, line: &[u8], status: Status) -> Status

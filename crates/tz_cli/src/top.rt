@@ -5,17 +5,15 @@ ghost use Rattle.tz_types.specs.declared.limit.TheConstants.{MOST_BYTES};
 ghost use Rattle.tz_types.specs.Source.{bytes_together};
 ghost use Rattle.tz_io.specs.Counts.{Rose};
 ghost use Rattle.tz_io.specs.Sink.{Appends, AppendsPart};
-ghost use Rattle.tz_cli.specs.BatchCommand.{BatchCommand, IsBatchCommand};
-ghost use Rattle.tz_cli.specs.Command.{Command, IsCommand, IsNoCommand, words_of, files_of, meant};
+ghost use Rattle.tz_words.specs.BatchCommand.{BatchCommand, IsBatchCommand};
+ghost use Rattle.tz_words.specs.Command.{Command, IsCommand, IsNoCommand, words_of, files_of, meant};
 ghost use Rattle.tz_cli.specs.Answer.{TextAnswers, IsAnswer, comes_in_pieces};
 ghost use Rattle.tz_cli.specs.Outcome.{Holds, Failed, IsDueFor, IsDue};
 ghost use Rattle.tz_cli.specs.Output.{GivesOutput, as_output, is_in_pieces};
-ghost use Rattle.tz_cli.specs.declared.status.Status.{Status};
+ghost use Rattle.tz_words.specs.declared.status.Status.{Status};
 
-use crate::batch_line::BatchLine;
 use crate::check::check;
 use crate::clock::clock;
-use crate::command_line::CommandLine;
 use crate::days::days;
 use crate::file_contents::contents_of;
 use crate::info::info;
@@ -25,13 +23,19 @@ use crate::output::{Output, print_output};
 use crate::printout::{print, print_refusal};
 use crate::refusal::Refusal;
 use crate::tzif::tzif;
-use crate::words::command_of;
 use crate::zones::dump;
-use crate::{Plain, Status};
 use std::alloc::Global;
 use std::thread::Threads;
 use tz_io::{Files, Sink};
 use tz_types::{Items, Text};
+use tz_words::{BatchLine, CommandLine, Status, command_of};
+
+/// What `run_plain` did: nothing, since the words are those of `batch`, or all of the command.
+#[derive(Clone, Copy, Debug, PartialEq, Eq, Hash)]
+pub enum Plain {
+    Shared,
+    Done(Status),
+}
 
 /// What was made whole, a line, lines or a file, or its refusal.
 fn line(outcome: Result<Vec<u8>, Refusal>) -> Result<Output, Refusal>

@@ -1,6 +1,6 @@
 use Rattle.std.proofs.Common.{◌≡◌, ℕ, ◌∷◌, ◌++◌, ◌-◌, [], ◌∙◌, subst, arith, rules}
 use Rattle.tz_io.specs.Counts.{Rose}
-use Rattle.tz_cli.specs.NamedText.{parts_of, parts_left}
+use Rattle.tz_words.specs.NamedText.{parts_of, parts_left}
 use Rattle.tz_cli.specs.Outcome.{Failed, MayRead}
 use Rattle.tz_cli.proofs.Contents.{next_refused, refused_before, next_read}
 use Rattle.tz_cli.proofs.file_contents.read_files.Goals as goal

@@ -1,6 +1,6 @@
 use Rattle.std.proofs.Common.{◌≡◌, ℕ, List}
-use Rattle.tz_cli.specs.NamedText.{parts_of, parts_left}
-use Rattle.tz_cli.proofs.Parts.{bytes_left}
+use Rattle.tz_words.specs.NamedText.{parts_of, parts_left}
+use Rattle.tz_words.proofs.Parts.{bytes_left}
 use Rattle.tz_cli.proofs.Contents.{HasRead}
 use Rattle.tz_cli.proofs.file_contents.read_files.Given as goal
 

@@ -1,9 +1,9 @@
 use Rattle.std.proofs.Common.{codes, inl, inr, refl, sym, subst}
-use Rattle.tz_cli.specs.Command.{meant}
+use Rattle.tz_words.specs.Command.{meant}
 use Rattle.tz_cli.specs.Outcome.{Failed, IsDueFor}
 use Rattle.tz_cli.specs.Refusal.{refusal_status, refusal_line}
-use Rattle.tz_cli.specs.declared.status.Status.{Status}
-use Rattle.tz_cli.specs.declared.status.Status.TheVariants as statuses
+use Rattle.tz_words.specs.declared.status.Status.{Status}
+use Rattle.tz_words.specs.declared.status.Status.TheVariants as statuses
 use Rattle.tz_cli.proofs.Due.{refusal_due}
 use Rattle.tz_cli.proofs.Outputs.{output_due, part_due}
 use Rattle.tz_cli.proofs.top.run_command.Goals as goal

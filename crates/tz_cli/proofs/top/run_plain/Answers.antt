@@ -1,9 +1,9 @@
 use Rattle.std.proofs.Common.{◌≡◌, ◌≢◌, codes, inl, inr, refl, sym, ap, subst, ◌∙◌, ⊎_elim, rules}
-use Rattle.tz_cli.specs.Command.{IsNoCommand, meant, words_of}
+use Rattle.tz_words.specs.Command.{IsNoCommand, meant, words_of}
 use Rattle.tz_cli.specs.Outcome.{Failed, IsDueFor, IsDue}
-use Rattle.tz_cli.specs.declared.status.Status.{Status}
-use Rattle.tz_cli.specs.declared.status.Status.TheVariants as statuses
-use Rattle.tz_cli.specs.declared.status.Plain.TheVariants.{Done}
+use Rattle.tz_words.specs.declared.status.Status.{Status}
+use Rattle.tz_words.specs.declared.status.Status.TheVariants as statuses
+use Rattle.tz_cli.specs.declared.top.Plain.TheVariants.{Done}
 use Rattle.tz_cli.proofs.Once.{one_command}
 use Rattle.tz_cli.proofs.Due.{for_words, one_due}
 use Rattle.tz_cli.proofs.top.run_plain.Goals as goal
