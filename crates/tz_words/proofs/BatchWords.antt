@@ -1,5 +1,5 @@
 -- The words of `batch`: what they name, and that they stand for one batch.
-use Rattle.std.proofs.Common.{◌≡◌, ◌≢◌, ℕ, ◌+◌, ◌<◌, ◌≤◌, ◌-◌, nat_le, true, false, not, ◌&&◌, bytes_eq, List, [], ◌∷◌, length, get_or, take, drop, codes, Option, Some, None, is_some, String, string_bytes, refl, sym, ap, ◌∙◌, subst, arith}
+use Rattle.std.proofs.Common.{◌≡◌, ◌≢◌, ℕ, ◌+◌, ◌≤◌, ◌-◌, nat_le, true, false, not, ◌&&◌, bytes_eq, List, [], ◌∷◌, length, get_or, take, drop, codes, Option, Some, None, is_some, String, string_bytes, refl, sym, ap, ◌∙◌, subst, arith}
 use Rattle.std.specs.List.{AllZip}
 use Rattle.std.specs.declared.alloc.Global.{Global}
 use Rattle.std.proofs.lemmas.Bool.{false≢true, both_ways, not-true, and_parts, le-leb, leb-true}

@@ -1,5 +1,5 @@
 -- Every form is listed.
-use Rattle.std.proofs.Common.{◌≡◌, [], ◌∷◌, Contains, refl, arith}
+use Rattle.std.proofs.Common.{[], ◌∷◌, Contains, refl, arith}
 use Rattle.tz_words.specs.declared.form.Form.{Form}
 use Rattle.tz_words.specs.declared.form.Form.TheVariants as forms
 

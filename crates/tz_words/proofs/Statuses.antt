@@ -1,5 +1,5 @@
 -- Every status is listed.
-use Rattle.std.proofs.Common.{◌≡◌, [], ◌∷◌, Contains, refl, arith}
+use Rattle.std.proofs.Common.{[], ◌∷◌, Contains, refl, arith}
 use Rattle.tz_words.specs.declared.status.Status.{Status}
 use Rattle.tz_words.specs.declared.status.Status.TheVariants as statuses
 

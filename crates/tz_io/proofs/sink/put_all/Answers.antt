@@ -1,6 +1,5 @@
 -- A write that took some bytes goes on from where the last one ended, and does not stall.
-use Rattle.std.proofs.Common.{◌≡◌, ◌≤◌, ◌-◌, length, drop, take, sym, ap, ◌∙◌, arith, length-drop, length-take}
-use Rattle.tz_io.specs.Sink.{with_bytes}
+use Rattle.std.proofs.Common.{◌-◌, length, drop, sym, arith, length-drop, length-take}
 use Rattle.tz_io.proofs.SinkStates.{with_none, next_part}
 use Rattle.tz_io.proofs.sink.put_all.Goals as goal
 

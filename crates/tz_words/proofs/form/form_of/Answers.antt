@@ -1,5 +1,4 @@
 use Rattle.std.proofs.Common.{rules}
-use Rattle.tz_words.specs.Command.{IsNoCommand}
 use Rattle.tz_words.proofs.form.form_of.Goals as goal
 
 pub returns-in-None-command_of-clause-none : goal.returns-in-None-command_of-clause-none
