@@ -5,7 +5,7 @@
 //! command. `form_of` tells which form words have, of all commands, and a `Status` how a command ended, with its number.
 //! The layer above reads the files that a `TextWord` names, and has `source` make a source of what they hold. No file and
 //! no version is known here: the crate stands on `tz_text` for numbers and times, on `tz_output` for the words of choices
-//! and conversions, and on `tz_script` and `pin_core` for how many texts and slots a batch may have.
+//! and conversions, and on `tz_script` and `pin_book` for how many texts and slots a batch may have.
 //!
 //! ```rust
 //! let mut words = Vec::new(alloc);
