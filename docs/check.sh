@@ -77,10 +77,10 @@ compare "$room/causes" "$room/told" "no cause of a script of docs/FORMATS.md" "n
 
 # Statuses.
 rows_of Status | awk -F ' *[|] *' '$2 ~ /^[0-9]+$/ { print $2 }' | sort >"$room/statuses"
-sed -nE 's/^ *Status::[A-Za-z]+ => ([0-9]+),/\1/p' crates/tz_cli/src/status.rt | sort >"$room/codes"
-compare "$room/codes" "$room/statuses" "no status of docs/FORMATS.md" "no status of tz_cli"
+sed -nE 's/^ *Status::[A-Za-z]+ => ([0-9]+),/\1/p' crates/tz_words/src/status.rt | sort >"$room/codes"
+compare "$room/codes" "$room/statuses" "no status of docs/FORMATS.md" "no status of tz_words"
 awk '/^\.SH/ { inside = /EXIT STATUS/ } inside && /^\.B [0-9]+$/ { print $2 }' docs/tzlist.1 | sort >"$room/manual"
-compare "$room/codes" "$room/manual" "no status of docs/tzlist.1" "no status of tz_cli"
+compare "$room/codes" "$room/manual" "no status of docs/tzlist.1" "no status of tz_words"
 
 # The page that the gate reads.
 cmp -s docs/tzlist.1 crates/manual/data/tzlist.1 || { echo "docs/tzlist.1 isn't crates/manual/data/tzlist.1"; gaps=1; }
@@ -93,9 +93,9 @@ awk '
     inside && /^\.I/ { sub(/^\.I /, ""); gsub(/\\fR/, ""); print form " " $0 }
 ' docs/tzlist.1 | sort >"$room/synopsis"
 compare "$room/forms" "$room/synopsis" "no form of docs/tzlist.1" "no form of docs/FORMATS.md"
-sed -nE 's/^.*"([a-z]+)" => .*$/\1/p; s/^.*as_str\(\) [!=]= "([a-z]+)".*$/\1/p' crates/tz_cli/src/*.rt | sort -u >"$room/keywords"
+sed -nE 's/^.*"([a-z]+)" => .*$/\1/p; s/^.*as_str\(\) [!=]= "([a-z]+)".*$/\1/p' crates/tz_words/src/*.rt | sort -u >"$room/keywords"
 while read -r word rest; do
-    grep -qrE "\"$word\"" crates/tz_cli/src || { echo "no word of tz_cli: $word"; gaps=1; }
+    grep -qrE "\"$word\"" crates/tz_words/src || { echo "no word of tz_words: $word"; gaps=1; }
     grep -q "\`$word\`" README.md || { echo "no command of README.md: $word"; gaps=1; }
 done <"$room/forms"
 

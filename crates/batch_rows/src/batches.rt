@@ -2,7 +2,7 @@
 use crate::outside::{answers, named_files};
 use crate::scripts::S1_PRINTED;
 use std::test::Fail;
-use tz_cli::Status;
+use tz_words::Status;
 
 const ALL_PRINTED: &str = "\
 journal 4

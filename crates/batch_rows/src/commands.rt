@@ -1,7 +1,7 @@
 //! The other commands, which the call that knows `batch` answers too.
 use crate::outside::{answers, named_files};
 use std::test::Fail;
-use tz_cli::Status;
+use tz_words::Status;
 
 /// A row of each command, and words of none.
 const ROWS: [(&str, Status, &str); 14] = [

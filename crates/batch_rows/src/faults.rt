@@ -2,7 +2,7 @@
 use crate::outside::{files_with_a_fault, run};
 use crate::scripts::S1_PRINTED;
 use std::test::Fail;
-use tz_cli::Status;
+use tz_words::Status;
 
 /// Batches, each with the number of the read that fails.
 const ROWS: [(&str, u32, Status, &str); 18] = [

@@ -3,7 +3,7 @@ use crate::outside::run;
 use row_files::{files_of, named_texts};
 use std::alloc::{AllocError, Global};
 use std::test::Fail;
-use tz_cli::Status;
+use tz_words::Status;
 
 /// How many operations a script has.
 const OPERATIONS: u32 = 40;

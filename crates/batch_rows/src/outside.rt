@@ -5,10 +5,10 @@ use std::alloc::{AllocError, Global};
 use std::process::Abort;
 use std::sync::Wait;
 use std::thread::Threads;
-use tz_cli::Status;
 use tz_io::{MemoryFiles, MemorySink};
 use tz_run::OpenGate;
 use tz_top::run as run_command;
+use tz_words::Status;
 
 /// The texts and the scripts, each with the name of its file.
 pub fn named_list(alloc: Global) -> Result<Vec<(String, Vec<u8>)>, AllocError> {

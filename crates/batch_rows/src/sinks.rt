@@ -2,8 +2,8 @@
 use crate::outside::{named_files, run, run_into};
 use crate::scripts::S1_PRINTED;
 use std::test::Fail;
-use tz_cli::Status;
 use tz_io::MemorySink;
+use tz_words::Status;
 
 /// A batch that prints `S1_PRINTED`.
 const BATCH: &str = "batch S1 4 - A B";

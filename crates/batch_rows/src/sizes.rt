@@ -4,8 +4,8 @@ use crate::scripts::LOOK;
 use row_files::{blank_lines, files_of};
 use std::alloc::{AllocError, Global};
 use std::test::Fail;
-use tz_cli::Status;
 use tz_io::MemoryFiles;
+use tz_words::Status;
 
 /// A script, a leap text and a text may have 4,194,304 bytes each.
 const MOST: usize = 4_194_304;

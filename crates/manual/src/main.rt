@@ -13,7 +13,7 @@ use crate::command_line::line_of;
 use crate::page::Page;
 use std::rt::Files;
 use std::{fs, io};
-use tz_cli::{Form, all_forms, all_statuses, form_of};
+use tz_words::{Form, all_forms, all_statuses, form_of};
 
 /// The form of the program that a form of the page shows, and a line that tells it.
 fn shown<R: Print + AllocGlobal>(rt: &R, form: &str) -> io::Result<Option<Form>> {

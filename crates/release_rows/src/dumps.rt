@@ -2,8 +2,9 @@
 use crate::outside::{RELEASE, answer_over};
 use std::test::Fail;
 use std::{fs, str};
-use tz_cli::{Plain, Status};
+use tz_cli::Plain;
 use tz_text::signed_number;
+use tz_words::Status;
 
 /// The room that a dump is given, in bytes.
 const ROOM: usize = 16_777_216;

@@ -5,7 +5,8 @@ use std::process::Abort;
 use std::test::Fail;
 use std::thread::Threads;
 use std::{fs, io, rt};
-use tz_cli::{Plain, Status};
+use tz_cli::Plain;
+use tz_words::Status;
 
 /// The folder of Debian's package `librust-chrono-tz-dev`.
 const FOLDER: &str = "/usr/share/cargo/registry/chrono-tz-0.6.1/tz";

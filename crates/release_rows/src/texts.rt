@@ -4,9 +4,10 @@ use std::alloc::{AllocError, Global};
 use std::fs;
 use std::process::Abort;
 use std::test::Fail;
-use tz_cli::{Plain, Status};
+use tz_cli::Plain;
 use tz_lines::read_leaps;
 use tz_text::{Fields, Joined, amount, named, on, signed_number, year};
+use tz_words::Status;
 
 /// The leap seconds.
 const LEAPS: &str = "/usr/share/zoneinfo/leapseconds";

@@ -1,16 +1,15 @@
 -- How the text of a dump grows by one more line, zone or group.
-use Rattle.std.proofs.Common.{◌≡◌, ℕ, zero, suc, ◌+◌, ◌<◌, List, [], ◌∷◌, ◌++◌, length, get_or, take, drop, slice_get, Option, Some, None, ℤ, refl, sym, ap, ◌∙◌, append_assoc, length-append, length-drop, zero-add, take-append-drop, inl, inr, arith}
+use Rattle.std.proofs.Common.{◌≡◌, ℕ, zero, suc, ◌+◌, ◌<◌, List, [], ◌∷◌, ◌++◌, length, get_or, take, drop, slice_get, Some, ℤ, refl, sym, ap, ◌∙◌, append_assoc, length-drop, take-append-drop, inl, inr, arith}
 use Rattle.std.specs.List.{flat_map, AllZip}
 use Rattle.std.proofs.lemmas.Option.{slice_get_cases, get_or_from_slice_get}
-use Rattle.std.proofs.lemmas.List.{append-nil, get_or-drop, take_more, take-append-le}
-use Rattle.tz_types.specs.declared.range.SysInfo.{SysInfo}
+use Rattle.std.proofs.lemmas.List.{append-nil, get_or-drop, take_more}
 use Rattle.tz_types.specs.declared.zone.Zone.{Zone}
 use Rattle.tz_types.specs.declared.database.Db.{Db}
-use Rattle.tz_io.specs.Sink.{Appends, AppendsPart}
+use Rattle.tz_io.specs.Sink.{SinkState, with_bytes}
+use Rattle.tz_io.proofs.SinkStates.{part_behind, stops_behind}
 use Rattle.tz_expand.specs.declared.compiled_zone.CompiledZone.{CompiledZone}
 use Rattle.tz_expand.specs.Zone.{IsCompiled}
-use Rattle.tz_expand.specs.Stretch.{ranges_between}
-use Rattle.tz_cli.specs.Dump.{zone_lines, zone_text, dump_text}
+use Rattle.tz_cli.specs.Dump.{zone_text, dump_text}
 use Rattle.tz_cli.specs.Dumping.{compiled_text, compiled_texts, IsStopped}
 use Rattle.tz_cli.specs.declared.dump.Stop.{Stop}
 use Rattle.tz_cli.specs.declared.dump.Stop.TheVariants as stops
@@ -44,37 +43,12 @@ zip_at R (z ∷ xs) [] place x y all low = absurd all
 zip_at R (z ∷ xs) (w ∷ ys) zero x y all low = all.0
 zip_at R (z ∷ xs) (w ∷ ys) (suc place) x y all low = zip_at R xs ys place x y all.1 (omega arith)
 
--- what is taken of two texts in turn is taken of both
-pub in_turn : (had between has : Option (List ℕ)) (first second : List ℕ) → Appends had between first → Appends between has second → Appends had has (first ++ second)
-in_turn None None has first second p q = q
-in_turn None (Some y) has first second p q = cc
-in_turn (Some x) None has first second p q = cc
-in_turn (Some x) (Some y) has first second p q = cc (append_assoc x first second)
-
-take_past : (xs ys : List ℕ) (count : ℕ) → take (length xs + count) (xs ++ ys) ≡ xs ++ take count ys
-take_past [] ys count = rw (zero-add count) refl
-take_past (x ∷ xs) ys count =
-    let long : length (x ∷ xs) + count ≡ suc (length xs + count) = omega arith in
-    rw long (ap (λ zs. x ∷ zs) (take_past xs ys count))
-
-part_of_both : (had between has : Option (List ℕ)) (done text : List ℕ) (count : ℕ) → Appends had between done → Appends between has (take count text) → Appends had has (take (length done + count) (done ++ text))
-part_of_both had between has done text count p q = rw (take_past done text count) (in_turn had between has done (take count text) p q)
-
 -- a text that stops after another was taken whole
-pub stopped_later : (stop : Stop) (before between now : ℕ × ℕ) (had middle has : Option (List ℕ)) (done text : List ℕ) → between ≡ before → Appends had middle done → IsStopped stop between now middle has text → IsStopped stop before now had has (done ++ text)
-stopped_later stops.Memory before between now had middle has done text same p stopped =
-    (stopped.0 ∙ same, length done + stopped.1, part_of_both had middle has done text stopped.1 p stopped.2)
-stopped_later stops.Write before between now had middle has done text same p stopped =
-    let long = length-append done text in
-    let short : stopped.0.0 < length text = stopped.0.1 in
-    ((length done + stopped.0.0, omega arith, part_of_both had middle has done text stopped.0.0 p stopped.0.2), rw (← same) stopped.1)
-
--- a text that isn't taken whole is a part of a longer one
-pub part_of_longer : (had has : Option (List ℕ)) (text later : List ℕ) → AppendsPart had has text → AppendsPart had has (text ++ later)
-part_of_longer had has text later part =
-    let long = length-append text later in
-    let short : part.0 < length text = part.1 in
-    (part.0, omega arith, rw (take-append-le part.0 text later (omega arith)) part.2)
+pub stopped_later : (stop : Stop) (before between now : SinkState) (done text : List ℕ) → between ≡ with_bytes before done → IsStopped stop between now text → IsStopped stop before now (done ++ text)
+stopped_later stops.Memory before between now done text is stopped =
+    (length done + stopped.0, stopped.1 ∙ part_behind before between done text stopped.0 is)
+stopped_later stops.Write before between now done text is stopped =
+    (stopped.0, stops_behind stopped.0 before between now done text is stopped.1)
 
 -- one more zone made ready
 pub next_compiled : (db : Db) (first more : ℕ) (from to : ℤ) (before now : List CompiledZone) → first + more < length db.zones → compiled_texts from to before ≡ dump_text db from to (take more (drop first db.zones)) → ((zone : Zone) → slice_get db.zones (first + more) ≡ Some zone → compiled_texts from to now ≡ compiled_texts from to before ++ zone_text db from to zone) → compiled_texts from to now ≡ dump_text db from to (take (more + 1) (drop first db.zones))
@@ -101,10 +75,3 @@ next_group from to size zones rest group later done first last all =
 pub group_before : (from to : ℤ) (size : ℕ) (rest group later : List CompiledZone) → group ≡ take size rest → later ≡ drop size rest → compiled_texts from to group ++ compiled_texts from to later ≡ compiled_texts from to rest
 group_before from to size rest group later first last =
     sym (flat_both (compiled_text from to) group later) ∙ ap (compiled_texts from to) (ap (λ zs. zs ++ later) first ∙ ap (λ zs. take size rest ++ zs) last ∙ take-append-drop size rest)
-
--- a part of a text, behind another that was taken whole
-pub part_after : (had between has : Option (List ℕ)) (done text : List ℕ) → Appends had between done → AppendsPart between has text → AppendsPart had has (done ++ text)
-part_after had between has done text p part =
-    let long = length-append done text in
-    let short : part.0 < length text = part.1 in
-    (length done + part.0, omega arith, part_of_both had between has done text part.0 p part.2)

@@ -1,10 +1,5 @@
 pub mod Texts
 pub mod InfoLine
-pub mod FewWords
-pub mod BatchWords
-pub mod Forms
-pub mod Statuses
-pub mod Parts
 pub mod Contents
 pub mod ClockLine
 pub mod Asked

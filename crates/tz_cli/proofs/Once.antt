@@ -19,8 +19,7 @@ use Rattle.tz_specs.specs.LeapText.{ReadsLeaps}
 use Rattle.tz_output.specs.Choice.{choice_word}
 use Rattle.tz_output.specs.Conversion.{conversion_word}
 use Rattle.tz_cli.specs.Conversion.{IsConvertible}
-use Rattle.tz_cli.specs.BatchCommand.{BatchCommand, IsBatchCommand}
-use Rattle.tz_cli.specs.Command.{Command, Info, Local, Moves, Days, Tzif, Dump, Check, Clock, IsCommand, day_count_of, short_year_of}
+use Rattle.tz_words.specs.Command.{Command, Info, Local, Moves, Days, Tzif, Dump, Check, Clock, IsCommand, day_count_of, short_year_of}
 use Rattle.tz_cli.specs.Info.{InfoAnswers}
 use Rattle.tz_text.specs.LocalTime.{local_time_of}
 use Rattle.tz_cli.specs.Local.{HasLocalInfo, IsLocalLine, LocalAnswers}
@@ -32,14 +31,14 @@ use Rattle.tz_cli.specs.Tzif.{AreYears, IsFileOf, TzifAnswers}
 use Rattle.tz_cli.specs.Dump.{IsThere, IsMissing, DumpAnswers, asked_for}
 use Rattle.tz_cli.specs.Check.{CheckAnswers}
 use Rattle.tz_cli.specs.Clock.{ClockAnswers}
-use Rattle.tz_cli.specs.NamedText.{NamedText, named_text_of, IsSourceOf}
+use Rattle.tz_words.specs.NamedText.{NamedText, named_text_of, IsSourceOf}
 use Rattle.tz_cli.specs.Answer.{TextAnswers, IsAnswer, OfSource}
 use Rattle.tz_output.specs.declared.choice.Choice.{Choice}
 use Rattle.tz_output.specs.declared.choice.Choice.TheVariants as choices
 use Rattle.tz_output.specs.declared.conversion.Conversion.{Conversion}
 use Rattle.tz_output.specs.declared.conversion.Conversion.TheVariants as conversions
-use Rattle.tz_cli.specs.declared.status.Status.{Status}
-use Rattle.tz_cli.specs.declared.status.Status.TheVariants as statuses
+use Rattle.tz_words.specs.declared.status.Status.{Status}
+use Rattle.tz_words.specs.declared.status.Status.TheVariants as statuses
 use Rattle.tz_specs.proofs.TextLemmas.{read_isnt_refused}
 use Rattle.tz_specs.proofs.LeapTextLemmas.{one_leap_table, read_leaps_are_not_refused}
 use Rattle.tz_specs.proofs.SameDatabase.{one_database}

@@ -10,8 +10,8 @@ use Rattle.tz_cli.specs.Refusal.{Gives}
 use Rattle.tz_cli.specs.ZoneAnswer.{ZoneAnswers, GivesOfZone}
 use Rattle.tz_cli.specs.declared.refusal.Refusal.{Refusal}
 use Rattle.tz_cli.specs.declared.refusal.Refusal.TheVariants as refusals
-use Rattle.tz_cli.specs.declared.status.Status.{Status}
-use Rattle.tz_cli.specs.declared.status.Status.TheVariants as statuses
+use Rattle.tz_words.specs.declared.status.Status.{Status}
+use Rattle.tz_words.specs.declared.status.Status.TheVariants as statuses
 use Rattle.tz_cli.proofs.Texts.{some_not_none}
 
 -- what the zone named answers is an answer over the source

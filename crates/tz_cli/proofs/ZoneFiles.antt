@@ -25,8 +25,8 @@ use Rattle.tz_tzif.specs.declared.tzif_error.TzifError.TheVariants as errors
 use Rattle.tz_cli.specs.NamedZone.{IsNamedZone}
 use Rattle.tz_cli.specs.ZoneAnswer.{GivesOfZone}
 use Rattle.tz_cli.specs.Tzif.{AreYears, ranges_of_years, types_of_years, IsFileOf, as_refusal}
-use Rattle.tz_cli.specs.declared.status.Status.{Status}
-use Rattle.tz_cli.specs.declared.status.Status.TheVariants as statuses
+use Rattle.tz_words.specs.declared.status.Status.{Status}
+use Rattle.tz_words.specs.declared.status.Status.TheVariants as statuses
 
 -- every year has days
 some_days : (year : ℤ) → 365 ≤ days_in_year year

@@ -4,8 +4,8 @@ use Rattle.std.specs.List.{concat}
 use Rattle.tz_types.specs.declared.limit.TheConstants.{MOST_BYTES}
 use Rattle.tz_types.specs.Source.{bytes_together}
 use Rattle.tz_types.specs.declared.source.Source.{Source}
-use Rattle.tz_cli.specs.NamedText.{NamedText, IsSourceOf}
-use Rattle.tz_cli.specs.Command.{Command, Info, Local, Moves, Days, Tzif, Dump, Check, Clock}
+use Rattle.tz_words.specs.NamedText.{NamedText, IsSourceOf}
+use Rattle.tz_words.specs.Command.{Command, Info, Local, Moves, Days, Tzif, Dump, Check, Clock}
 use Rattle.tz_cli.specs.Info.{InfoAnswers}
 use Rattle.tz_cli.specs.Local.{LocalAnswers}
 use Rattle.tz_cli.specs.Moves.{MovesAnswers}
@@ -14,8 +14,8 @@ use Rattle.tz_cli.specs.Tzif.{TzifAnswers}
 use Rattle.tz_cli.specs.Dump.{DumpAnswers, asked_for}
 use Rattle.tz_cli.specs.Check.{CheckAnswers}
 use Rattle.tz_cli.specs.Clock.{ClockAnswers}
-use Rattle.tz_cli.specs.declared.status.Status.{Status}
-use Rattle.tz_cli.specs.declared.status.Status.TheVariants as statuses
+use Rattle.tz_words.specs.declared.status.Status.{Status}
+use Rattle.tz_words.specs.declared.status.Status.TheVariants as statuses
 
 -- It holds of the source of the text named, whose files have these contents.
 abbrev pub OfSource : NamedText → List (List ℕ) → (Source → Type 0) → Type 0

@@ -5,8 +5,8 @@ use Rattle.tz_types.specs.declared.database.Db.{Db}
 use Rattle.tz_specs.specs.Reads.{Reads}
 use Rattle.tz_cli.specs.Line.{check_line}
 use Rattle.tz_cli.specs.Text.{IsTextRefusal}
-use Rattle.tz_cli.specs.declared.status.Status.{Status}
-use Rattle.tz_cli.specs.declared.status.Status.TheVariants as statuses
+use Rattle.tz_words.specs.declared.status.Status.{Status}
+use Rattle.tz_words.specs.declared.status.Status.TheVariants as statuses
 
 -- the statuses of `check`, each with its line and its reason in the source
 abbrev pub CheckAnswers : Source → Status → List ℕ → Type 0

@@ -6,8 +6,8 @@ use Rattle.tz_specs.specs.LeapText.{ReadsLeaps, RefusesLeaps}
 use Rattle.tz_cli.specs.Line.{fault_line}
 use Rattle.tz_cli.specs.Conversion.{IsConvertible, IsConversionLine}
 use Rattle.tz_output.specs.declared.conversion.Conversion.{Conversion}
-use Rattle.tz_cli.specs.declared.status.Status.{Status}
-use Rattle.tz_cli.specs.declared.status.Status.TheVariants as statuses
+use Rattle.tz_words.specs.declared.status.Status.{Status}
+use Rattle.tz_words.specs.declared.status.Status.TheVariants as statuses
 
 -- The number is in range for the text's leap table, and the line is that of its conversion.
 pub record IsClockLine (text : List ℕ) (conversion : Conversion) (number : ℤ) (line : List ℕ) : Type 0 where

@@ -7,8 +7,8 @@ use Rattle.tz_expand.specs.Zone.{expansion_of}
 use Rattle.tz_moves.specs.Day.{IsDay, day_seconds}
 use Rattle.tz_cli.specs.Line.{day_line}
 use Rattle.tz_cli.specs.ZoneAnswer.{ZoneAnswers}
-use Rattle.tz_cli.specs.declared.status.Status.{Status}
-use Rattle.tz_cli.specs.declared.status.Status.TheVariants as statuses
+use Rattle.tz_words.specs.declared.status.Status.{Status}
+use Rattle.tz_words.specs.declared.status.Status.TheVariants as statuses
 
 -- so many days from one on, each the day after the one before
 unfoldable pub days_from : ℤ → ℕ → List ℤ

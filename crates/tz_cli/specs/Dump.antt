@@ -13,8 +13,8 @@ use Rattle.tz_expand.specs.Stretch.{IsStretch, meets}
 use Rattle.tz_cli.specs.Line.{range_line}
 use Rattle.tz_cli.specs.Text.{IsTextRefusal}
 use Rattle.tz_cli.specs.Info.{HasNoZone}
-use Rattle.tz_cli.specs.declared.status.Status.{Status}
-use Rattle.tz_cli.specs.declared.status.Status.TheVariants as statuses
+use Rattle.tz_words.specs.declared.status.Status.{Status}
+use Rattle.tz_words.specs.declared.status.Status.TheVariants as statuses
 
 -- the line `zone NAME`, then a line for each range
 abbrev pub zone_lines : List ℕ → List SysInfo → List ℕ

@@ -9,8 +9,8 @@ use Rattle.tz_specs.specs.Reads.{Reads}
 use Rattle.tz_lines.specs.Locate.{located}
 use Rattle.tz_cli.specs.Line.{range_line}
 use Rattle.tz_cli.specs.Text.{IsTextRefusal}
-use Rattle.tz_cli.specs.declared.status.Status.{Status}
-use Rattle.tz_cli.specs.declared.status.Status.TheVariants as statuses
+use Rattle.tz_words.specs.declared.status.Status.{Status}
+use Rattle.tz_words.specs.declared.status.Status.TheVariants as statuses
 
 -- The line is that of the range that holds the instant, in the full expansion of the zone named, of the source.
 pub record IsInfoLine (source : Source) (name : List ℕ) (t : ℤ) (line : List ℕ) : Type 0 where

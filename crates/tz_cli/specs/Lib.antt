@@ -1,8 +1,4 @@
 pub mod Conversion
-pub mod NamedText
-pub mod BatchCommand
-pub mod Command
-pub mod Form
 pub mod Line
 pub mod Text
 pub mod Info

@@ -17,8 +17,8 @@ use Rattle.tz_output.specs.declared.choice.Choice.TheVariants as choices
 use Rattle.tz_cli.specs.Line.{local_line, sys_line}
 use Rattle.tz_cli.specs.Text.{IsTextRefusal}
 use Rattle.tz_cli.specs.Info.{HasNoZone}
-use Rattle.tz_cli.specs.declared.status.Status.{Status}
-use Rattle.tz_cli.specs.declared.status.Status.TheVariants as statuses
+use Rattle.tz_words.specs.declared.status.Status.{Status}
+use Rattle.tz_words.specs.declared.status.Status.TheVariants as statuses
 
 -- The local time is in range, and that is what the full expansion of the zone named, of the source, tells of it.
 pub record HasLocalInfo (source : Source) (name : List ℕ) (l : ℤ) (info : LocalInfo) : Type 0 where

@@ -7,8 +7,8 @@ use Rattle.tz_expand.specs.Stretch.{IsStretch}
 use Rattle.tz_moves.specs.Move.{moves_between}
 use Rattle.tz_cli.specs.Line.{move_line}
 use Rattle.tz_cli.specs.ZoneAnswer.{ZoneAnswers}
-use Rattle.tz_cli.specs.declared.status.Status.{Status}
-use Rattle.tz_cli.specs.declared.status.Status.TheVariants as statuses
+use Rattle.tz_words.specs.declared.status.Status.{Status}
+use Rattle.tz_words.specs.declared.status.Status.TheVariants as statuses
 
 -- a line for each move of the zone in the stretch
 abbrev pub AreMovesOf : ℤ → ℤ → CompiledZone → Status → List ℕ → Type 0

@@ -1,12 +1,13 @@
 -- Why a command has no text, and what it prints in the place of one.
-use Rattle.std.specs.Prelude.{ℕ, ◌<◌, List, length, Option, Result, Ok, Err, Vec, codes}
+use Rattle.std.specs.Prelude.{ℕ, ◌<◌, ◌⊎◌, List, length, Result, Ok, Err, Vec, codes}
 use Rattle.std.specs.declared.alloc.Global.{Global}
 use Rattle.tz_types.specs.declared.source.Source.{Source}
 use Rattle.tz_cli.specs.Line.{fault_line}
 use Rattle.tz_specs.specs.Reads as texts
-use Rattle.tz_cli.specs.Outcome.{FileContents, MayRead, FailsToRead, ReadsTooMuch}
-use Rattle.tz_cli.specs.declared.status.Status.{Status}
-use Rattle.tz_cli.specs.declared.status.Status.TheVariants as statuses
+use Rattle.tz_io.specs.Files.{FilesState, FileFailed}
+use Rattle.tz_cli.specs.Outcome.{MayRead, FailsToRead, ReadsTooMuch, Exactly}
+use Rattle.tz_words.specs.declared.status.Status.{Status}
+use Rattle.tz_words.specs.declared.status.Status.TheVariants as statuses
 use Rattle.tz_cli.specs.declared.refusal.Refusal.{Refusal}
 use Rattle.tz_cli.specs.declared.refusal.Refusal.TheVariants as refusals
 
@@ -60,17 +61,22 @@ RefusesRange reason refusals.Range = reason
 RefusesRange reason _ = ⊥
 
 -- want of memory, or a file gave no content, or the files gave too much
-abbrev pub RefusesContents : Option FileContents → List (List ℕ) → (List ℕ → Type 0) → Refusal → Type 0
-RefusesContents told names failed refusals.Memory = Unit {0}
-RefusesContents told names failed refusals.Read = FailsToRead told names failed
-RefusesContents told names failed refusals.TooLarge =
-    (contents : List (List ℕ)) × ReadsTooMuch told names contents
-RefusesContents told names failed _ = ⊥
+abbrev pub RefusesContents : FilesState → FilesState → List (List ℕ) → Refusal → Type 0
+RefusesContents before after names refusals.Memory = Unit {0}
+RefusesContents before after names refusals.Read = FailsToRead before after names
+RefusesContents before after names refusals.TooLarge = (contents : List (List ℕ)) × ReadsTooMuch before names contents
+RefusesContents before after names _ = ⊥
 
 -- want of memory, or the file gave no content, or one of more bytes than were left
-abbrev pub RefusesFile : Option FileContents → List ℕ → ℕ → Type 0 → Refusal → Type 0
-RefusesFile told name left failed refusals.Memory = Unit {0}
-RefusesFile told name left failed refusals.Read = failed
-RefusesFile told name left failed refusals.TooLarge =
-    (content : List ℕ) × MayRead told name content × (left < length content)
-RefusesFile told name left failed _ = ⊥
+abbrev pub RefusesFile : FilesState → FilesState → List ℕ → ℕ → Refusal → Type 0
+RefusesFile before after name left refusals.Memory = Unit {0}
+RefusesFile before after name left refusals.Read = FileFailed before after name
+RefusesFile before after name left refusals.TooLarge =
+    (content : List ℕ) × MayRead before name content × (left < length content)
+RefusesFile before after name left _ = ⊥
+
+-- The line of the refusal is due at its status, or where memory ran out for it, the line that says so.
+abbrev pub TellsRefusal : Refusal → Status → List ℕ → Type 0
+TellsRefusal refusal status line =
+    Exactly (refusal_status refusal) (refusal_line refusal) status line
+    ⊎ Exactly statuses.Memory (codes "memory\n") status line

@@ -19,8 +19,8 @@ use Rattle.tz_tzif.specs.declared.tzif_error.TzifError.TheVariants as errors
 use Rattle.tz_cli.specs.ZoneAnswer.{ZoneAnswers}
 use Rattle.tz_cli.specs.declared.refusal.Refusal.{Refusal}
 use Rattle.tz_cli.specs.declared.refusal.Refusal.TheVariants as refusals
-use Rattle.tz_cli.specs.declared.status.Status.{Status}
-use Rattle.tz_cli.specs.declared.status.Status.TheVariants as statuses
+use Rattle.tz_words.specs.declared.status.Status.{Status}
+use Rattle.tz_words.specs.declared.status.Status.TheVariants as statuses
 
 -- The years are in order, and each of them, and the year behind them, is one in which rules may occur.
 pub record AreYears (first last : ℤ) : Type 0 where

@@ -11,8 +11,8 @@ use Rattle.tz_cli.specs.Info.{HasNoZone}
 use Rattle.tz_cli.specs.NamedZone.{IsNamedZone}
 use Rattle.tz_cli.specs.declared.refusal.Refusal.{Refusal}
 use Rattle.tz_cli.specs.declared.refusal.Refusal.TheVariants as refusals
-use Rattle.tz_cli.specs.declared.status.Status.{Status}
-use Rattle.tz_cli.specs.declared.status.Status.TheVariants as statuses
+use Rattle.tz_words.specs.declared.status.Status.{Status}
+use Rattle.tz_words.specs.declared.status.Status.TheVariants as statuses
 
 -- The source has the zone, and what is asked of it isn't in range.
 pub record IsOutOfRange (source : Source) (name : List ℕ) (inside : Type 0) : Type 0 where

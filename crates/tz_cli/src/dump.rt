@@ -4,7 +4,7 @@ ghost use Rattle.std.specs.Prelude.{◌≡◌, ◌≤◌, ◌<◌, ◌+◌, ◌+
 ghost use Rattle.std.specs.List.{flat_map, AllZip};
 ghost use Rattle.tz_types.specs.declared.zone.Zone.{Zone};
 ghost use Rattle.tz_specs.specs.Sound.{is_sound};
-ghost use Rattle.tz_io.specs.Sink.{Appends};
+ghost use Rattle.tz_io.specs.Sink.{with_bytes};
 ghost use Rattle.tz_expand.specs.Stretch.{IsStretch, ranges_between};
 ghost use Rattle.tz_cli.specs.Line.{range_line};
 ghost use Rattle.tz_cli.specs.Dump.{zone_lines, zone_text, dump_text};
@@ -16,7 +16,7 @@ use std::alloc::Global;
 use std::sync::Arc;
 use std::thread::Threads;
 use tz_expand::{CompiledZone, compile, dump_zones};
-use tz_io::Sink;
+use tz_io::{PutError, Sink};
 use tz_output::put_range;
 use tz_types::{Db, NoMemory, Shared, SysInfo};
 
@@ -38,11 +38,20 @@ impl From<NoMemory> for Stop {
     }
 }
 
+impl From<PutError> for Stop {
+    ghost from_gives = { λ _ stop. stop ≡ stops.Write };
+
+    fn from(_: PutError) -> Self {
+        Stop::Write
+    }
+}
+
 /// Puts the line of a range behind the text that waits.
 fn put_range_line<S: Sink>(waiting: &mut Vec<u8>, range: &SysInfo, sink: &mut S) -> Result<(), Stop>
-    ensures ok { OnOk result (IsPut (S.faults sink.old, S.stalls sink.old) (S.faults sink.new, S.stalls sink.new) (S.taken sink.old) (S.taken sink.new) waiting.old.items waiting.new.items (range_line range.now)) }
+    ensures ok { OnOk result
+        (IsPut (S.state sink.old) (S.state sink.new) waiting.old.items waiting.new.items (range_line range.now)) }
     ensures stopped { IfErr result (λ stop. (later : List ℕ) →
-        IsStopped stop (S.faults sink.old, S.stalls sink.old) (S.faults sink.new, S.stalls sink.new) (S.taken sink.old) (S.taken sink.new) (waiting.old.items ++ (range_line range.now ++ later))) }
+        IsStopped stop (S.state sink.old) (S.state sink.new) (waiting.old.items ++ (range_line range.now ++ later))) }
 {
     put_line(waiting, range)?;
     write_enough(waiting, sink)
@@ -59,9 +68,10 @@ fn put_line(out: &mut Vec<u8>, range: &SysInfo) -> Result<(), NoMemory>
 
 /// Puts a line for each range behind the text that waits.
 fn put_ranges<S: Sink>(waiting: &mut Vec<u8>, ranges: &[SysInfo], sink: &mut S) -> Result<(), Stop>
-    ensures ok { OnOk result (IsPut (S.faults sink.old, S.stalls sink.old) (S.faults sink.new, S.stalls sink.new) (S.taken sink.old) (S.taken sink.new) waiting.old.items waiting.new.items (flat_map range_line ranges.now)) }
+    ensures ok { OnOk result
+        (IsPut (S.state sink.old) (S.state sink.new) waiting.old.items waiting.new.items (flat_map range_line ranges.now)) }
     ensures stopped { IfErr result (λ stop. (later : List ℕ) →
-        IsStopped stop (S.faults sink.old, S.stalls sink.old) (S.faults sink.new, S.stalls sink.new) (S.taken sink.old) (S.taken sink.new) (waiting.old.items ++ (flat_map range_line ranges.now ++ later))) }
+        IsStopped stop (S.state sink.old) (S.state sink.new) (waiting.old.items ++ (flat_map range_line ranges.now ++ later))) }
 {
     for range in ranges {
         put_range_line(waiting, range, sink)?;
@@ -86,9 +96,10 @@ fn put_zone<S: Sink>(
     ranges: &[SysInfo],
     sink: &mut S,
 ) -> Result<(), Stop>
-    ensures ok { OnOk result (IsPut (S.faults sink.old, S.stalls sink.old) (S.faults sink.new, S.stalls sink.new) (S.taken sink.old) (S.taken sink.new) waiting.old.items waiting.new.items (zone_lines zone.now.name ranges.now)) }
+    ensures ok { OnOk result
+        (IsPut (S.state sink.old) (S.state sink.new) waiting.old.items waiting.new.items (zone_lines zone.now.name ranges.now)) }
     ensures stopped { IfErr result (λ stop. (later : List ℕ) →
-        IsStopped stop (S.faults sink.old, S.stalls sink.old) (S.faults sink.new, S.stalls sink.new) (S.taken sink.old) (S.taken sink.new) (waiting.old.items ++ (zone_lines zone.now.name ranges.now ++ later))) }
+        IsStopped stop (S.state sink.old) (S.state sink.new) (waiting.old.items ++ (zone_lines zone.now.name ranges.now ++ later))) }
 {
     put_name(waiting, zone)?;
     put_ranges(waiting, ranges, sink)
@@ -105,9 +116,10 @@ fn put_zones<S: Sink>(
 ) -> Result<(), Stop>
     requires counted { length zones.now ≡ length dump.now }
     requires are { AllZip (λ zone ranges. ranges.items ≡ ranges_between zone from to) zones.now dump.now }
-    ensures ok { OnOk result (IsPut (S.faults sink.old, S.stalls sink.old) (S.faults sink.new, S.stalls sink.new) (S.taken sink.old) (S.taken sink.new) waiting.old.items waiting.new.items (compiled_texts from to zones.now)) }
+    ensures ok { OnOk result
+        (IsPut (S.state sink.old) (S.state sink.new) waiting.old.items waiting.new.items (compiled_texts from to zones.now)) }
     ensures stopped { IfErr result (λ stop. (later : List ℕ) →
-        IsStopped stop (S.faults sink.old, S.stalls sink.old) (S.faults sink.new, S.stalls sink.new) (S.taken sink.old) (S.taken sink.new) (waiting.old.items ++ (compiled_texts from to zones.now ++ later))) }
+        IsStopped stop (S.state sink.old) (S.state sink.new) (waiting.old.items ++ (compiled_texts from to zones.now ++ later))) }
 {
     for place in 0..zones.len() {
         put_zone(waiting, zones[place].get(), dump[place].as_slice(), sink)?;
@@ -126,9 +138,10 @@ fn put_group<S: Sink>(
     sink: &mut S,
 ) -> Result<(), Stop>
     requires { IsStretch from to }
-    ensures ok { OnOk result (IsPut (S.faults sink.old, S.stalls sink.old) (S.faults sink.new, S.stalls sink.new) (S.taken sink.old) (S.taken sink.new) waiting.old.items waiting.new.items (compiled_texts from to zones.now)) }
+    ensures ok { OnOk result
+        (IsPut (S.state sink.old) (S.state sink.new) waiting.old.items waiting.new.items (compiled_texts from to zones.now)) }
     ensures stopped { IfErr result (λ stop. (later : List ℕ) →
-        IsStopped stop (S.faults sink.old, S.stalls sink.old) (S.faults sink.new, S.stalls sink.new) (S.taken sink.old) (S.taken sink.new) (waiting.old.items ++ (compiled_texts from to zones.now ++ later))) }
+        IsStopped stop (S.state sink.old) (S.state sink.new) (waiting.old.items ++ (compiled_texts from to zones.now ++ later))) }
 {
     let dump = dump_zones(rt, alloc, zones, from, to)?;
     put_zones(waiting, zones, dump.as_slice(), from, to, sink)
@@ -144,9 +157,9 @@ pub fn write_zones<S: Sink>(
     sink: &mut S,
 ) -> Result<(), Stop>
     requires { IsStretch from to }
-    ensures ok { OnOk result (Appends (S.taken sink.old) (S.taken sink.new) (compiled_texts from to zones.now)) }
+    ensures ok { OnOk result (S.state sink.new ≡ with_bytes (S.state sink.old) (compiled_texts from to zones.now)) }
     ensures stopped { IfErr result (λ stop.
-        IsStopped stop (S.faults sink.old, S.stalls sink.old) (S.faults sink.new, S.stalls sink.new) (S.taken sink.old) (S.taken sink.new) (compiled_texts from to zones.now)) }
+        IsStopped stop (S.state sink.old) (S.state sink.new) (compiled_texts from to zones.now)) }
 {
     let mut waiting = room_for_a_piece(alloc)?;
     let mut rest = zones;

@@ -2,17 +2,16 @@
 ghost use Rattle.std.specs.Prelude.{◌≡◌, ◌≤◌, ℕ, List, ◌∷◌, [], length, IfOk, IfErr, OnOk};
 ghost use Rattle.tz_types.specs.declared.limit.TheConstants.{MOST_BYTES};
 ghost use Rattle.tz_types.specs.Source.{bytes_together};
-ghost use Rattle.tz_cli.specs.NamedText.{parts_of};
-ghost use Rattle.tz_cli.specs.Command.{files_of, leap_files, meant};
-ghost use Rattle.tz_cli.specs.Outcome.{MayRead, MayReadAll, Failed};
+ghost use Rattle.tz_words.specs.NamedText.{parts_of};
+ghost use Rattle.tz_words.specs.Command.{files_of, leap_files, meant};
+ghost use Rattle.tz_cli.specs.Outcome.{MayRead, MayReadAll};
 ghost use Rattle.tz_cli.specs.Refusal.{RefusesFile, RefusesContents};
 
-use crate::command_line::CommandLine;
 use crate::refusal::Refusal;
-use crate::text_word::first_name;
 use std::alloc::Global;
 use tz_io::{FileError, Files};
 use tz_types::{Items, MOST_BYTES, Text};
+use tz_words::{CommandLine, first_name};
 
 /// The content of a file, where it has no more bytes than are left to read.
 fn read_file<F: Files>(
@@ -22,11 +21,11 @@ fn read_file<F: Files>(
     files: &mut F,
 ) -> Result<Vec<u8>, Refusal>
     requires { left ≤ MOST_BYTES }
-    ensures content { IfOk result (λ content. MayRead (F.told files.old) name.now content.items) }
+    ensures content { IfOk result (λ content. MayRead (F.state files.old) name.now content.items) }
     ensures short { IfOk result (λ content. length content.items ≤ left) }
-    ensures unharmed { OnOk result ((other : List ℕ) → F.faults files.new other ≡ F.faults files.old other) }
-    ensures refused { IfErr result (λ refusal. RefusesFile (F.told files.old) name.now left (Failed (F.faults files.old) (F.faults files.new) name.now) refusal) }
-    ensures told { F.told files.new ≡ F.told files.old }
+    ensures unharmed { OnOk result (F.state files.new ≡ F.state files.old) }
+    ensures refused { IfErr result (λ refusal. RefusesFile (F.state files.old) (F.state files.new) name.now left refusal) }
+    ensures kept { (F.state files.new).contents ≡ (F.state files.old).contents }
 {
     let content = match files.read(alloc, name, left) {
         Ok(bytes) => bytes,
@@ -46,11 +45,11 @@ pub fn read_files<F: Files>(
     names: &str,
     files: &mut F,
 ) -> Result<Items<Text>, Refusal>
-    ensures contents { IfOk result (λ contents. MayReadAll (F.told files.old) (parts_of names.now) contents) }
+    ensures contents { IfOk result (λ contents. MayReadAll (F.state files.old) (parts_of names.now) contents) }
     ensures short { IfOk result (λ contents. bytes_together contents ≤ MOST_BYTES) }
-    ensures unharmed { OnOk result ((other : List ℕ) → F.faults files.new other ≡ F.faults files.old other) }
-    ensures refused { IfErr result (λ refusal. RefusesContents (F.told files.old) (parts_of names.now) (Failed (F.faults files.old) (F.faults files.new)) refusal) }
-    ensures told { F.told files.new ≡ F.told files.old }
+    ensures unharmed { OnOk result (F.state files.new ≡ F.state files.old) }
+    ensures refused { IfErr result (λ refusal. RefusesContents (F.state files.old) (F.state files.new) (parts_of names.now) refusal) }
+    ensures kept { (F.state files.new).contents ≡ (F.state files.old).contents }
 {
     let mut contents = Items::new(alloc);
     let mut left = MOST_BYTES;
@@ -72,11 +71,11 @@ pub fn read_files<F: Files>(
 
 /// The content of the one file of that name.
 pub fn read_one<F: Files>(alloc: Global, name: &str, files: &mut F) -> Result<Items<Text>, Refusal>
-    ensures contents { IfOk result (λ contents. MayReadAll (F.told files.old) (name.now ∷ []) contents) }
+    ensures contents { IfOk result (λ contents. MayReadAll (F.state files.old) (name.now ∷ []) contents) }
     ensures short { IfOk result (λ contents. bytes_together contents ≤ MOST_BYTES) }
-    ensures unharmed { OnOk result ((other : List ℕ) → F.faults files.new other ≡ F.faults files.old other) }
-    ensures refused { IfErr result (λ refusal. RefusesContents (F.told files.old) (name.now ∷ []) (Failed (F.faults files.old) (F.faults files.new)) refusal) }
-    ensures told { F.told files.new ≡ F.told files.old }
+    ensures unharmed { OnOk result (F.state files.new ≡ F.state files.old) }
+    ensures refused { IfErr result (λ refusal. RefusesContents (F.state files.old) (F.state files.new) (name.now ∷ []) refusal) }
+    ensures kept { (F.state files.new).contents ≡ (F.state files.old).contents }
 {
     let content = match read_file(alloc, name, MOST_BYTES, files) {
         Ok(content) => content,
@@ -95,11 +94,11 @@ pub fn read_leaps<F: Files>(
     leaps: &str,
     files: &mut F,
 ) -> Result<Items<Text>, Refusal>
-    ensures contents { IfOk result (λ contents. MayReadAll (F.told files.old) (leap_files leaps.now) contents) }
+    ensures contents { IfOk result (λ contents. MayReadAll (F.state files.old) (leap_files leaps.now) contents) }
     ensures short { IfOk result (λ contents. bytes_together contents ≤ MOST_BYTES) }
-    ensures unharmed { OnOk result ((other : List ℕ) → F.faults files.new other ≡ F.faults files.old other) }
-    ensures refused { IfErr result (λ refusal. RefusesContents (F.told files.old) (leap_files leaps.now) (Failed (F.faults files.old) (F.faults files.new)) refusal) }
-    ensures told { F.told files.new ≡ F.told files.old }
+    ensures unharmed { OnOk result (F.state files.new ≡ F.state files.old) }
+    ensures refused { IfErr result (λ refusal. RefusesContents (F.state files.old) (F.state files.new) (leap_files leaps.now) refusal) }
+    ensures kept { (F.state files.new).contents ≡ (F.state files.old).contents }
 {
     match leaps {
         "-" => Ok(Items::new(alloc)),
@@ -113,10 +112,10 @@ pub fn contents_of<F: Files>(
     command: CommandLine<'_>,
     files: &mut F,
 ) -> Result<Items<Text>, Refusal>
-    ensures contents { IfOk result (λ contents. MayReadAll (F.told files.old) (files_of (meant command.entry)) contents) }
+    ensures contents { IfOk result (λ contents. MayReadAll (F.state files.old) (files_of (meant command.entry)) contents) }
     ensures short { IfOk result (λ contents. bytes_together contents ≤ MOST_BYTES) }
-    ensures refused { IfErr result (λ refusal. RefusesContents (F.told files.old) (files_of (meant command.entry)) (Failed (F.faults files.old) (F.faults files.new)) refusal) }
-    ensures told { F.told files.new ≡ F.told files.old }
+    ensures refused { IfErr result (λ refusal. RefusesContents (F.state files.old) (F.state files.new) (files_of (meant command.entry)) refusal) }
+    ensures kept { (F.state files.new).contents ≡ (F.state files.old).contents }
 {
     match command {
         CommandLine::Info { text, .. }

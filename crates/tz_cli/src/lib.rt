@@ -1,4 +1,4 @@
-//! Commands: the words, the files and the printed line.
+//! Commands: the files and the printed line.
 //!
 //! `run_plain` does a whole command: `info TEXT ZONE T` prints the range of a zone that holds an instant, `local TEXT
 //! ZONE L CHOICE` the ranges that show a local time or the instant that it stands for, `moves TEXT ZONE FROM TO` when
@@ -6,8 +6,8 @@
 //! LAST` the zone as a file of RFC 8536 over years, `dump TEXT FROM TO ZONE` all ranges that meet a stretch of time,
 //! `check TEXT` the counts of what a text has, and `clock LEAPS CONV X` a count of one clock by that of another. TEXT
 //! names up to sixteen files with commas between, and `=VERSION,` before them gives the text's version. A command that
-//! is refused prints why. The words of `batch SCRIPT SLOTS LEAPS TEXT..` are matched here and left to the layer above,
-//! which takes from here how files are read and lines printed. `form_of` tells which form words have.
+//! is refused prints why. The words are matched by `tz_words`. Those of `batch SCRIPT SLOTS LEAPS TEXT..` are left to the
+//! layer above, which takes from here how files are read and lines printed.
 //!
 //! ```rust
 //! let mut words = Vec::new(alloc);
@@ -22,14 +22,11 @@
 //! ```
 #![tactic(auto)]
 
-mod batch_line;
 mod check;
 mod clock;
-mod command_line;
 mod days;
 mod dump;
 mod file_contents;
-mod form;
 mod info;
 mod line;
 mod local;
@@ -39,20 +36,13 @@ mod output;
 mod pieces;
 mod printout;
 mod refusal;
-mod status;
 mod text;
-mod text_word;
 mod top;
 mod tzif;
-mod words;
 mod zone_dump;
 mod zones;
 
-pub use batch_line::BatchLine;
 pub use file_contents::{read_files, read_leaps, read_one};
-pub use form::{Form, all_forms, form_of};
 pub use printout::{print, print_refusal};
 pub use refusal::Refusal;
-pub use status::{Plain, Status, all_statuses};
-pub use text_word::TextWord;
-pub use top::run_plain;
+pub use top::{Plain, run_plain};

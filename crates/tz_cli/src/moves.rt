@@ -6,7 +6,7 @@ ghost use Rattle.tz_cli.specs.Line.{move_line};
 ghost use Rattle.tz_cli.specs.Moves.{AreMovesOf, MovesAnswers};
 ghost use Rattle.tz_cli.specs.Refusal.{Gives};
 ghost use Rattle.tz_cli.specs.ZoneAnswer.{GivesOfZone};
-ghost use Rattle.tz_cli.specs.declared.status.Status.TheVariants as statuses;
+ghost use Rattle.tz_words.specs.declared.status.Status.TheVariants as statuses;
 
 use crate::line::put_move;
 use crate::named_zone::named_zone;

@@ -1,14 +1,12 @@
 //! Text that waits to be written. It goes to its sink in pieces of at most `PIECE` bytes, and no more of it is kept
 //! meanwhile than one piece and the last line.
-ghost use Rattle.std.specs.Prelude.{◌≡◌, ◌≤◌, ◌++◌, ◌⊎◌, ℕ, List, [], length, IfOk, IfErr, OnOk, OnErr};
-ghost use Rattle.tz_io.specs.Counts.{Rose};
-ghost use Rattle.tz_io.specs.Sink.{Appends, AppendsPart};
+ghost use Rattle.std.specs.Prelude.{◌≡◌, ◌≤◌, ◌++◌, ℕ, List, [], length, IfOk, IfErr, OnOk};
+ghost use Rattle.tz_io.specs.Sink.{with_bytes, StopsBy};
 ghost use Rattle.tz_cli.specs.Dumping.{IsPut, IsStopped};
-ghost use Rattle.tz_cli.specs.declared.dump.Stop.TheVariants as stops;
 
 use crate::dump::Stop;
 use std::alloc::Global;
-use tz_io::{Sink, put_all};
+use tz_io::{PutError, Sink, put_all};
 use tz_types::NoMemory;
 
 /// The most bytes that are written at once.
@@ -25,27 +23,18 @@ pub(crate) fn room_for_a_piece(alloc: Global) -> Result<Vec<u8>, NoMemory>
 }
 
 /// Writes a piece whole.
-fn write_piece<S: Sink>(piece: &[u8], sink: &mut S) -> Result<(), Stop>
+fn write_piece<S: Sink>(piece: &[u8], sink: &mut S) -> Result<(), PutError>
     requires { length piece.now ≤ PIECE }
-    ensures ok { OnOk result (Appends (S.taken sink.old) (S.taken sink.new) piece.now) }
-    ensures calm { OnOk result ((S.faults sink.new ≡ S.faults sink.old) × (S.stalls sink.new ≡ S.stalls sink.old)) }
-    ensures is { IfErr result (λ stop. stop ≡ stops.Write) }
-    ensures part { OnErr result (AppendsPart (S.taken sink.old) (S.taken sink.new) piece.now) }
-    ensures rose { OnErr result (Rose (S.faults sink.old) (S.faults sink.new) ⊎ Rose (S.stalls sink.old) (S.stalls sink.new)) }
+    ensures ok { OnOk result (S.state sink.new ≡ with_bytes (S.state sink.old) piece.now) }
+    ensures err { IfErr result (λ error. StopsBy error (S.state sink.old) (S.state sink.new) piece.now) }
 {
-    match put_all(sink, piece) {
-        Ok(()) => Ok(()),
-        Err(_) => Err(Stop::Write),
-    }
+    put_all(sink, piece)
 }
 
 /// Writes a text whole, piece after piece.
-pub(crate) fn write_text<S: Sink>(text: &[u8], sink: &mut S) -> Result<(), Stop>
-    ensures ok { OnOk result (Appends (S.taken sink.old) (S.taken sink.new) text.now) }
-    ensures calm { OnOk result ((S.faults sink.new ≡ S.faults sink.old) × (S.stalls sink.new ≡ S.stalls sink.old)) }
-    ensures is { IfErr result (λ stop. stop ≡ stops.Write) }
-    ensures part { OnErr result (AppendsPart (S.taken sink.old) (S.taken sink.new) text.now) }
-    ensures rose { OnErr result (Rose (S.faults sink.old) (S.faults sink.new) ⊎ Rose (S.stalls sink.old) (S.stalls sink.new)) }
+pub(crate) fn write_text<S: Sink>(text: &[u8], sink: &mut S) -> Result<(), PutError>
+    ensures ok { OnOk result (S.state sink.new ≡ with_bytes (S.state sink.old) text.now) }
+    ensures err { IfErr result (λ error. StopsBy error (S.state sink.old) (S.state sink.new) text.now) }
 {
     let mut rest = text;
     while !rest.is_empty() {
@@ -58,9 +47,9 @@ pub(crate) fn write_text<S: Sink>(text: &[u8], sink: &mut S) -> Result<(), Stop>
 
 /// Writes the text that waits once there is enough of it.
 pub(crate) fn write_enough<S: Sink>(waiting: &mut Vec<u8>, sink: &mut S) -> Result<(), Stop>
-    ensures ok { OnOk result (IsPut (S.faults sink.old, S.stalls sink.old) (S.faults sink.new, S.stalls sink.new) (S.taken sink.old) (S.taken sink.new) waiting.old.items waiting.new.items []) }
+    ensures ok { OnOk result (IsPut (S.state sink.old) (S.state sink.new) waiting.old.items waiting.new.items []) }
     ensures stopped { IfErr result (λ stop. (later : List ℕ) →
-        IsStopped stop (S.faults sink.old, S.stalls sink.old) (S.faults sink.new, S.stalls sink.new) (S.taken sink.old) (S.taken sink.new) (waiting.old.items ++ later)) }
+        IsStopped stop (S.state sink.old) (S.state sink.new) (waiting.old.items ++ later)) }
     ensures room { OnOk result (length waiting.new.items ≤ ENOUGH) }
 {
     if waiting.len() <= ENOUGH {

@@ -2,10 +2,10 @@
 ghost use Rattle.std.specs.Prelude.{◌≡◌, IfOk};
 ghost use Rattle.tz_cli.specs.Refusal.{refusal_status, refusal_line};
 
-use crate::Status;
 use crate::line::fault_line;
 use std::alloc::Global;
 use tz_types::{Fault, LineFault, NoMemory};
+use tz_words::Status;
 
 /// Why a command has no text.
 #[derive(Clone, Copy, Debug, PartialEq, Eq)]

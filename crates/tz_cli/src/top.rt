@@ -3,19 +3,17 @@ ghost use Rattle.std.specs.Prelude.{◌≡◌, ◌≢◌, ◌⊎◌, ◌≤◌, 
 ghost use Rattle.std.specs.List.{AllZip, Any, concat};
 ghost use Rattle.tz_types.specs.declared.limit.TheConstants.{MOST_BYTES};
 ghost use Rattle.tz_types.specs.Source.{bytes_together};
-ghost use Rattle.tz_io.specs.Counts.{Rose};
-ghost use Rattle.tz_io.specs.Sink.{Appends, AppendsPart};
-ghost use Rattle.tz_cli.specs.BatchCommand.{BatchCommand, IsBatchCommand};
-ghost use Rattle.tz_cli.specs.Command.{Command, IsCommand, IsNoCommand, words_of, files_of, meant};
+ghost use Rattle.tz_io.specs.Files.{FileFailed};
+ghost use Rattle.tz_io.specs.Sink.{SinkFailed};
+ghost use Rattle.tz_words.specs.BatchCommand.{BatchCommand, IsBatchCommand};
+ghost use Rattle.tz_words.specs.Command.{Command, IsCommand, IsNoCommand, words_of, files_of, meant};
 ghost use Rattle.tz_cli.specs.Answer.{TextAnswers, IsAnswer, comes_in_pieces};
-ghost use Rattle.tz_cli.specs.Outcome.{Holds, Failed, IsDueFor, IsDue};
+ghost use Rattle.tz_cli.specs.Outcome.{Holds, IsDueFor, IsDue, Prints};
 ghost use Rattle.tz_cli.specs.Output.{GivesOutput, as_output, is_in_pieces};
-ghost use Rattle.tz_cli.specs.declared.status.Status.{Status};
+ghost use Rattle.tz_words.specs.declared.status.Status.{Status};
 
-use crate::batch_line::BatchLine;
 use crate::check::check;
 use crate::clock::clock;
-use crate::command_line::CommandLine;
 use crate::days::days;
 use crate::file_contents::contents_of;
 use crate::info::info;
@@ -25,13 +23,19 @@ use crate::output::{Output, print_output};
 use crate::printout::{print, print_refusal};
 use crate::refusal::Refusal;
 use crate::tzif::tzif;
-use crate::words::command_of;
 use crate::zones::dump;
-use crate::{Plain, Status};
 use std::alloc::Global;
 use std::thread::Threads;
 use tz_io::{Files, Sink};
 use tz_types::{Items, Text};
+use tz_words::{BatchLine, CommandLine, Status, command_of};
+
+/// What `run_plain` did: nothing, since the words are those of `batch`, or all of the command.
+#[derive(Clone, Copy, Debug, PartialEq, Eq, Hash)]
+pub enum Plain {
+    Shared,
+    Done(Status),
+}
 
 /// What was made whole, a line, lines or a file, or its refusal.
 fn line(outcome: Result<Vec<u8>, Refusal>) -> Result<Output, Refusal>
@@ -119,9 +123,9 @@ fn answer<F: Files>(
     command: CommandLine<'_>,
     files: &mut F,
 ) -> Result<Output, Refusal>
-    ensures due { GivesOutput (IsDueFor (meant command.entry) (F.told files.old) (Failed (F.faults files.old) (F.faults files.new))) result }
+    ensures due { GivesOutput (IsDueFor (meant command.entry) (F.state files.old) (F.state files.new)) result }
     ensures pieces { IfOk result (λ output. is_in_pieces output ≡ comes_in_pieces (meant command.entry)) }
-    ensures told { F.told files.new ≡ F.told files.old }
+    ensures kept { (F.state files.new).contents ≡ (F.state files.old).contents }
 {
     match contents_of(alloc, command, files) {
         Ok(contents) => answer_over(alloc, command, contents),
@@ -137,15 +141,9 @@ fn run_command<F: Files, S: Sink>(
     files: &mut F,
     sink: &mut S,
 ) -> Status
-    ensures whole { result ≢ Status.Write →
-        (line : List ℕ) × IsDueFor (meant command.entry) (F.told files.old) (Failed (F.faults files.old) (F.faults files.new)) result line
-        × Appends (S.taken sink.old) (S.taken sink.new) line }
-    ensures part { result ≡ Status.Write →
-        (status : Status) × (line : List ℕ)
-        × IsDueFor (meant command.entry) (F.told files.old) (Failed (F.faults files.old) (F.faults files.new)) status line
-        × AppendsPart (S.taken sink.old) (S.taken sink.new) line }
-    ensures write { result ≡ Status.Write → Rose (S.faults sink.old) (S.faults sink.new) ⊎ Rose (S.stalls sink.old) (S.stalls sink.new) }
-    ensures told { F.told files.new ≡ F.told files.old }
+    ensures due { Prints (IsDueFor (meant command.entry) (F.state files.old) (F.state files.new)) result
+        (S.state sink.old) (S.state sink.new) }
+    ensures kept { (F.state files.new).contents ≡ (F.state files.old).contents }
 {
     match answer(alloc, command, files) {
         Ok(output) => print_output(rt, alloc, &output, sink),
@@ -165,18 +163,11 @@ pub fn run_plain<F: Files, S: Sink>(
     files: &mut F,
     sink: &mut S,
 ) -> Plain
-    // All that was printed is the line that is due at the status, and the status has its reason: 0, 3, 8, 9, 10, 14
-    // and 15 in the text, 11 in the size of the files, 5 in a fault of the next file that was counted in this call.
-    ensures whole { (status : Status) → result ≡ Plain.Done status → status ≢ Status.Write →
-        (line : List ℕ) × IsDue (words_of words.now) (F.told files.old) (Failed (F.faults files.old) (F.faults files.new)) status line
-        × Appends (S.taken sink.old) (S.taken sink.new) line }
-
-    // 6: a fault of the sink or a stall was counted in this call, and a part of a line that is due was printed.
-    ensures write { result ≡ Plain.Done Status.Write → Rose (S.faults sink.old) (S.faults sink.new) ⊎ Rose (S.stalls sink.old) (S.stalls sink.new) }
-    ensures part { result ≡ Plain.Done Status.Write →
-        (status : Status) × (line : List ℕ)
-        × IsDue (words_of words.now) (F.told files.old) (Failed (F.faults files.old) (F.faults files.new)) status line
-        × AppendsPart (S.taken sink.old) (S.taken sink.new) line }
+    // At every status but 6, all that was printed is the line that is due at it: 0, 3, 8, 9, 10, 14 and 15 have their
+    // reason in the text, 11 in the size of the files, 5 in a fault of the next file that was counted in this call. At 6 a
+    // part of a line that is due was printed, and then a fault of the sink or a stall was counted.
+    ensures due { (status : Status) → result ≡ Plain.Done status →
+        Prints (IsDue (words_of words.now) (F.state files.old) (F.state files.new)) status (S.state sink.old) (S.state sink.new) }
 
     // 2: exactly where the words match no form, and want of memory never hides it: only the sink may.
     ensures usage { result ≡ Plain.Done Status.Usage → IsNoCommand (words_of words.now) }
@@ -184,20 +175,20 @@ pub fn run_plain<F: Files, S: Sink>(
 
     // Where no fault and no stall was counted, an answer over the contents has its status, but for want of memory.
     ensures exact { (command : Command) (contents : List (List ℕ)) (status : Status) (line : List ℕ) →
-        IsCommand (words_of words.now) command → AllZip (Holds (F.told files.old)) (files_of command) contents →
+        IsCommand (words_of words.now) command → AllZip (Holds (F.state files.old)) (files_of command) contents →
         IsAnswer command contents status line →
-        ¬ (Any (Failed (F.faults files.old) (F.faults files.new)) (files_of command)) →
-        ¬ (Rose (S.faults sink.old) (S.faults sink.new)) → ¬ (Rose (S.stalls sink.old) (S.stalls sink.new)) →
+        ¬ (Any (FileFailed (F.state files.old) (F.state files.new)) (files_of command)) →
+        ¬ (SinkFailed (S.state sink.old) (S.state sink.new)) →
         (result ≡ Plain.Done status) ⊎ (result ≡ Plain.Done Status.Memory) }
 
     // Words are left to the caller exactly where they are those of `batch`, and then nothing was read or written.
     ensures shared { (result ≡ Plain.Shared) ↔ ((batch : BatchCommand) × IsBatchCommand (words_of words.now) batch) }
-    ensures unread { result ≡ Plain.Shared → (name : List ℕ) → F.faults files.new name ≡ F.faults files.old name }
-    ensures unwritten { result ≡ Plain.Shared → (S.taken sink.new ≡ S.taken sink.old) × (S.faults sink.new ≡ S.faults sink.old) × (S.stalls sink.new ≡ S.stalls sink.old) }
+    ensures unread { result ≡ Plain.Shared → F.state files.new ≡ F.state files.old }
+    ensures unwritten { result ≡ Plain.Shared → S.state sink.new ≡ S.state sink.old }
 
-    // 4 doesn't come, and the files stay as they were.
+    // 4 doesn't come, and the files hold what they held.
     ensures never { result ≢ Plain.Done Status.Script }
-    ensures told { F.told files.new ≡ F.told files.old }
+    ensures kept { (F.state files.new).contents ≡ (F.state files.old).contents }
 {
     if BatchLine::new(words).is_some() {
         return Plain::Shared;

@@ -1,16 +1,14 @@
 -- What files in memory hold, and what they count.
-use Rattle.std.specs.Prelude.{ℕ, List, Option, Bool}
+use Rattle.std.specs.Prelude.{ℕ, List, Option, Some, Bool}
 use Rattle.tz_io.specs.declared.memory_files.MemoryFiles.{MemoryFiles}
 use Rattle.tz_io.specs.Calls.{next_call, fails_at}
 use Rattle.tz_io.specs.Entries.{entry_contents, entry_place, entry_count}
+use Rattle.tz_io.specs.Files.{FilesState}
 
--- What the files of each name hold.
-abbrev pub files_contents : MemoryFiles → List ℕ → Option (List ℕ)
-files_contents files = entry_contents files.list.items
-
--- How often a read of a name has failed.
-abbrev pub files_faults : MemoryFiles → List ℕ → ℕ
-files_faults files name = entry_count files.counts.items files.others (entry_place files.list.items name)
+-- what they hold, which they tell, and how often a read of each name has failed
+abbrev pub files_state : MemoryFiles → FilesState
+files_state files =
+    record { contents = Some (entry_contents files.list.items); faults = λ name. entry_count files.counts.items files.others (entry_place files.list.items name) }
 
 -- How many reads there were, up to the greatest that 64 bits hold.
 abbrev pub files_calls : MemoryFiles → ℕ

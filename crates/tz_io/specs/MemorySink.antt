@@ -1,23 +1,20 @@
 -- What a sink in memory took, what it counts, and what its next write does.
-use Rattle.std.specs.Prelude.{ℕ, ◌-◌, List, Bool, length, min}
+use Rattle.std.specs.Prelude.{ℕ, ◌-◌, List, Some, Bool, length, min}
 use Rattle.tz_io.specs.declared.memory_sink.MemorySink.{MemorySink}
 use Rattle.tz_io.specs.Calls.{next_call, fails_at}
+use Rattle.tz_io.specs.Sink.{SinkState}
 
 -- All bytes taken so far.
 abbrev pub sink_bytes : MemorySink → List ℕ
 sink_bytes sink = sink.bytes.items
 
+-- these bytes, which it tells, and how often a write has failed or took nothing of a piece that was not empty
+abbrev pub sink_state : MemorySink → SinkState
+sink_state sink = record { bytes = Some sink.bytes.items; faults = sink.faults; stalls = sink.stalls }
+
 -- How many writes there were, up to the greatest that 64 bits hold.
 abbrev pub sink_calls : MemorySink → ℕ
 sink_calls sink = sink.calls
-
--- How often a write has failed.
-abbrev pub sink_faults : MemorySink → ℕ
-sink_faults sink = sink.faults
-
--- How often a write took nothing of a piece that was not empty.
-abbrev pub sink_stalls : MemorySink → ℕ
-sink_stalls sink = sink.stalls
 
 -- What no write changes: the most bytes of a write, the most bytes of all, and the numbers of the writes that fail.
 abbrev pub sink_limits : MemorySink → ℕ × ℕ × List ℕ

@@ -1,8 +1,7 @@
 //! Files that are read by name, up to a limit in bytes.
-ghost use Rattle.std.specs.Prelude.{◌≡◌, ◌≤◌, ℕ, List, Option, IfOk, OnOk, IsErrOf};
+ghost use Rattle.std.specs.Prelude.{◌≡◌, IfOk, OnOk, IsErrOf};
 ghost use Rattle.tz_io.specs.declared.files.FileError.TheVariants.{NoMemory};
-ghost use Rattle.tz_io.specs.Counts.{Rose};
-ghost use Rattle.tz_io.specs.Files.{IsFront};
+ghost use Rattle.tz_io.specs.Files.{FilesState, IsFront, FileFailed, KeepsFiles};
 
 use std::alloc::{AllocError, Global};
 use std::error::Error;
@@ -43,21 +42,17 @@ impl From<AllocError> for FileError {
 
 /// Files that are read by name.
 pub trait Files {
-    /// The content of each name, where the object tells it. A name is given by its bytes.
-    ghost told: { Self → Option (List ℕ → Option (List ℕ)) };
-
-    /// How often a read of a name has failed, up to the end of its type. No call makes it smaller, and one that gives
-    /// content leaves it as it was.
-    ghost faults: { Self → List ℕ → ℕ };
+    /// The content of each name, where the object tells it, and how often a read of each name has failed, up to the end
+    /// of its type. A name is given by its bytes.
+    ghost state: { Self → FilesState };
 
     /// The first `limit + 1` bytes of the file of that name, or all of it where it is shorter: so
     /// more than `limit` bytes say that the file is longer than the limit. `FileError::Failed` comes
     /// only where the count of faults of that name rose; `FileError::NoMemory` may come at any call.
-    /// No count rises where content is given. The files stay as they were, whatever the answer.
+    /// The files hold what they held, whatever the answer, and no count falls. Where content is given, none rises.
     fn read(&mut self, alloc: Global, name: &str, limit: usize) -> Result<Vec<u8>, FileError>
-        ensures kept { told self.new ≡ told self.old }
-        ensures bytes { IfOk result (λ bytes. IsFront (told self.old) name.now limit bytes.items) }
-        ensures later { (other : List ℕ) → faults self.old other ≤ faults self.new other }
-        ensures unharmed { OnOk result ((other : List ℕ) → faults self.new other ≡ faults self.old other) }
-        ensures failed { IsErrOf result FileError.Failed → Rose (faults self.old name.now) (faults self.new name.now) };
+        ensures bytes { IfOk result (λ bytes. IsFront (state self.old) name.now limit bytes.items) }
+        ensures unharmed { OnOk result (state self.new ≡ state self.old) }
+        ensures kept { KeepsFiles (state self.old) (state self.new) }
+        ensures failed { IsErrOf result FileError.Failed → FileFailed (state self.old) (state self.new) name.now };
 }

@@ -19,7 +19,7 @@ pub struct MemoryFiles {
 }
 
 impl MemoryFiles {
-    ghost use Rattle.tz_io.specs.MemoryFiles.{files_contents, files_faults, files_calls, files_failing};
+    ghost use Rattle.tz_io.specs.MemoryFiles.{files_state, files_calls, files_failing};
 
     /// Files of these names and contents. Of a name that stands more than once the first entry
     /// counts. `failing` has the numbers of the reads that fail, counted from 1.
@@ -28,10 +28,10 @@ impl MemoryFiles {
         list: Vec<(String, Vec<u8>)>,
         failing: Vec<u32>,
     ) -> Result<MemoryFiles, NoMemory>
-        ensures told { IfOk result (λ files. files_contents files ≡ entry_contents list.items) }
+        ensures told { IfOk result (λ files. (files_state files).contents ≡ Some (entry_contents list.items)) }
         ensures failing { IfOk result (λ files. files_failing files ≡ failing.items) }
         ensures calls { IfOk result (λ files. files_calls files ≡ 0) }
-        ensures unharmed { IfOk result (λ files. (name : List ℕ) → files_faults files name ≡ 0) }
+        ensures unharmed { IfOk result (λ files. (name : List ℕ) → (files_state files).faults name ≡ 0) }
     {
         let mut counts = Vec::new(alloc);
         counts.resize(list.len(), 0)?;
@@ -76,26 +76,24 @@ fn front_of(alloc: Global, content: &[u8], limit: usize) -> Result<Vec<u8>, Allo
 impl Files for MemoryFiles {
     ghost use Rattle.std.specs.Prelude.{◌⊎◌, IsTrue, IsNone};
     ghost use Rattle.tz_io.specs.Calls.{next_call};
-    ghost use Rattle.tz_io.specs.Counts.{Rose};
-    ghost use Rattle.tz_io.specs.Files.{IsFront};
-    ghost use Rattle.tz_io.specs.MemoryFiles.{files_contents, files_faults, files_calls, files_failing, read_fails_next, files_place};
+    ghost use Rattle.tz_io.specs.Files.{IsFront, FileFailed, KeepsFiles};
+    ghost use Rattle.tz_io.specs.MemoryFiles.{files_state, files_calls, files_failing, read_fails_next, files_place};
 
-    ghost told = { λ files. Some (files_contents files) };
-
-    ghost faults = { files_faults };
+    ghost state = { files_state };
 
     fn read(&mut self, alloc: Global, name: &str, limit: usize) -> Result<Vec<u8>, FileError>
         // What the trait promises.
-        ensures kept { Some (files_contents self.new) ≡ Some (files_contents self.old) }
-        ensures bytes { IfOk result (λ bytes. IsFront (Some (files_contents self.old)) name.now limit bytes.items) }
-        ensures later { (other : List ℕ) → files_faults self.old other ≤ files_faults self.new other }
-        ensures unharmed { OnOk result ((other : List ℕ) → files_faults self.new other ≡ files_faults self.old other) }
-        ensures failed { IsErrOf result FileError.Failed → Rose (files_faults self.old name.now) (files_faults self.new name.now) }
+        ensures bytes { IfOk result (λ bytes. IsFront (files_state self.old) name.now limit bytes.items) }
+        ensures unharmed { OnOk result (files_state self.new ≡ files_state self.old) }
+        ensures kept { KeepsFiles (files_state self.old) (files_state self.new) }
+        ensures failed { IsErrOf result FileError.Failed → FileFailed (files_state self.old) (files_state self.new) name.now }
 
         // Which reads fail, and whose count then rises.
-        ensures counted { IsErrOf result FileError.Failed → files_faults self.new name.now ≡ min (files_faults self.old name.now + 1) (2 ^ 64 - 1) }
-        ensures hungry { IsErrOf result FileError.NoMemory → (other : List ℕ) → files_faults self.new other ≡ files_faults self.old other }
-        ensures alone { (other : List ℕ) → files_place self.old other ≢ files_place self.old name.now → files_faults self.new other ≡ files_faults self.old other }
+        ensures counted { IsErrOf result FileError.Failed →
+            (files_state self.new).faults name.now ≡ min ((files_state self.old).faults name.now + 1) (2 ^ 64 - 1) }
+        ensures hungry { IsErrOf result FileError.NoMemory → files_state self.new ≡ files_state self.old }
+        ensures alone { (other : List ℕ) → files_place self.old other ≢ files_place self.old name.now →
+            (files_state self.new).faults other ≡ (files_state self.old).faults other }
         ensures fails { IsTrue (read_fails_next self.old) → IsErrOf result FileError.Failed }
         ensures absent { IsNone (files_place self.old name.now) → IsErrOf result FileError.Failed }
         ensures fails_only { IsErrOf result FileError.Failed → IsTrue (read_fails_next self.old) ⊎ IsNone (files_place self.old name.now) }

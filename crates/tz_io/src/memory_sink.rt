@@ -1,8 +1,8 @@
 //! A sink in memory, for tests and for proofs that speak of what was taken.
-ghost use Rattle.std.specs.Prelude.{◌≡◌, ◌≤◌, [], IfOk, vec_len, vec_capacity};
+ghost use Rattle.std.specs.Prelude.{◌≡◌, ◌≤◌, [], Some, IfOk, vec_len, vec_capacity};
 
 use crate::calls::is_failing;
-use crate::{Failed, Sink};
+use crate::{Failed, PutError, Sink};
 use std::alloc::Global;
 use tz_types::NoMemory;
 
@@ -21,7 +21,7 @@ pub struct MemorySink {
 }
 
 impl MemorySink {
-    ghost use Rattle.tz_io.specs.MemorySink.{sink_bytes, sink_calls, sink_faults, sink_stalls, sink_limits};
+    ghost use Rattle.tz_io.specs.MemorySink.{sink_bytes, sink_state, sink_calls, sink_limits};
 
     /// A sink that takes at most `piece` bytes a write and `room` bytes in all, whose memory it
     /// takes here. A write that finds no room left takes nothing. `failing` has the numbers of the
@@ -32,11 +32,9 @@ impl MemorySink {
         room: usize,
         failing: Vec<u32>,
     ) -> Result<MemorySink, NoMemory>
-        ensures empty { IfOk result (λ sink. sink_bytes sink ≡ []) }
+        ensures state { IfOk result (λ sink. sink_state sink ≡ record { bytes = Some []; faults = 0; stalls = 0 }) }
         ensures limits { IfOk result (λ sink. sink_limits sink ≡ (piece, room, failing.items)) }
         ensures calls { IfOk result (λ sink. sink_calls sink ≡ 0) }
-        ensures faults { IfOk result (λ sink. sink_faults sink ≡ 0) }
-        ensures stalls { IfOk result (λ sink. sink_stalls sink ≡ 0) }
     {
         Ok(MemorySink {
             bytes: Vec::with_capacity(alloc, room)?,
@@ -58,31 +56,24 @@ impl MemorySink {
 }
 
 impl Sink for MemorySink {
-    ghost use Rattle.std.specs.Prelude.{◌≡◌, ◌≤◌, ◌<◌, ◌↔◌, ◌+◌, ◌-◌, ◌^◌, Some, Ok, IfOk, OnOk, OnErr, IsErr, IsTrue, length, min};
+    ghost use Rattle.std.specs.Prelude.{◌≡◌, ◌≤◌, ◌↔◌, ◌+◌, ◌-◌, ◌^◌, IfOk, OnErr, IsErr, IsTrue, length, min, take};
     ghost use Rattle.tz_io.specs.Calls.{next_call};
-    ghost use Rattle.tz_io.specs.Counts.{Rose};
-    ghost use Rattle.tz_io.specs.Sink.{Appends, part_taken};
-    ghost use Rattle.tz_io.specs.MemorySink.{sink_bytes, sink_calls, sink_faults, sink_stalls, sink_limits, write_fails_next, taken_next};
+    ghost use Rattle.tz_io.specs.Sink.{with_bytes, IsStall, Counts};
+    ghost use Rattle.tz_io.specs.MemorySink.{sink_state, sink_calls, sink_limits, write_fails_next, taken_next};
 
-    ghost taken = { λ sink. Some (sink_bytes sink) };
-
-    ghost faults = { sink_faults };
-
-    ghost stalls = { sink_stalls };
+    ghost state = { sink_state };
 
     fn write(&mut self, piece: &[u8]) -> Result<usize, Failed>
         // What the trait promises.
         ensures within { IfOk result (λ count. count ≤ length piece.now) }
-        ensures taken { Appends (Some (sink_bytes self.old)) (Some (sink_bytes self.new)) (part_taken result piece.now) }
-        ensures failed { OnErr result (Rose (sink_faults self.old) (sink_faults self.new)) }
-        ensures unharmed { OnOk result (sink_faults self.new ≡ sink_faults self.old) }
-        ensures later { sink_faults self.old ≤ sink_faults self.new }
-        ensures stalled { 0 < length piece.now → result ≡ Ok 0 → Rose (sink_stalls self.old) (sink_stalls self.new) }
-        ensures stalls_only { sink_stalls self.old < sink_stalls self.new → (0 < length piece.now) × (result ≡ Ok 0) }
-        ensures stalls_later { sink_stalls self.old ≤ sink_stalls self.new }
+        ensures taken { IfOk result (λ count. ¬ (IsStall count piece.now) →
+            sink_state self.new ≡ with_bytes (sink_state self.old) (take count piece.now)) }
+        ensures stalled { IfOk result (λ count. IsStall count piece.now →
+            Counts PutError.Stalled (sink_state self.old) (sink_state self.new)) }
+        ensures failed { OnErr result (Counts PutError.Failed (sink_state self.old) (sink_state self.new)) }
 
         // Which writes fail and are counted, and how much the others take.
-        ensures counted { OnErr result (sink_faults self.new ≡ min (sink_faults self.old + 1) (2 ^ 64 - 1)) }
+        ensures counted { OnErr result ((sink_state self.new).faults ≡ min ((sink_state self.old).faults + 1) (2 ^ 64 - 1)) }
         ensures fails { IsErr result ↔ IsTrue (write_fails_next self.old) }
         ensures count { IfOk result (λ count. count ≡ taken_next self.old piece.now) }
         ensures calls { sink_calls self.new ≡ next_call (sink_calls self.old) }

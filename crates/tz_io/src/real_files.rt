@@ -1,5 +1,5 @@
 //! The system's files.
-ghost use Rattle.std.specs.Prelude.{◌≡◌, ◌+◌, ◌≤◌, ℕ, List, None, IfOk, vec_len};
+ghost use Rattle.std.specs.Prelude.{◌≡◌, ◌+◌, ◌≤◌, None, IfOk, vec_len};
 
 use crate::{FileError, Files};
 use std::alloc::Global;
@@ -64,25 +64,11 @@ fn read_front<R: rt::Files>(
 }
 
 impl<R: rt::Files> Files for RealFiles<'_, R> {
-    ghost use Rattle.std.specs.Prelude.{◌≡◌, ◌≤◌, ◌+◌, ◌-◌, ◌^◌, ℕ, List, IfOk, OnOk, OnErr, IsErrOf, min};
-    ghost use Rattle.tz_io.specs.Counts.{Rose};
-    ghost use Rattle.tz_io.specs.Files.{IsFront, nothing_told};
+    ghost use Rattle.std.specs.Prelude.{◌≡◌, ◌+◌, ◌-◌, ◌^◌, OnErr, min};
 
-    ghost told = { λ _. nothing_told };
+    ghost state = { λ files. record { contents = None; faults = λ _. files.faults } };
 
-    ghost faults = { λ files _. files.faults };
-
-    fn read(&mut self, alloc: Global, name: &str, limit: usize) -> Result<Vec<u8>, FileError>
-        // What the trait promises.
-        ensures kept { nothing_told ≡ nothing_told }
-        ensures bytes { IfOk result (λ bytes. IsFront nothing_told name.now limit bytes.items) }
-        ensures later { (other : List ℕ) → self.old.faults ≤ self.new.faults }
-        ensures unharmed { OnOk result ((other : List ℕ) → self.new.faults ≡ self.old.faults) }
-        ensures failed { IsErrOf result FileError.Failed → Rose self.old.faults self.new.faults }
-
-        // Each error is counted, also where memory ran out.
-        ensures counted { OnErr result (self.new.faults ≡ min (self.old.faults + 1) (2 ^ 64 - 1)) }
-    {
+    fn read(&mut self, alloc: Global, name: &str, limit: usize) -> Result<Vec<u8>, FileError> {
         let answer = read_front(self.rt, alloc, name, limit);
         if answer.is_err() {
             self.faults = self.faults.saturating_add(1);

@@ -27,11 +27,7 @@ impl<'a, R: Print> RealSink<'a, R> {
 }
 
 impl<R: Print> Sink for RealSink<'_, R> {
-    ghost taken = { λ _. None };
-
-    ghost faults = { λ sink. sink.faults };
-
-    ghost stalls = { λ sink. sink.stalls };
+    ghost state = { λ sink. record { bytes = None; faults = sink.faults; stalls = sink.stalls } };
 
     fn write(&mut self, piece: &[u8]) -> Result<usize, Failed> {
         match self.rt.write_some(piece) {

@@ -1,8 +1,7 @@
 //! A sink that takes bytes, and the loop that gives it a whole text.
-ghost use Rattle.std.specs.Prelude.{◌≡◌, ◌≢◌, ◌≤◌, ◌<◌, ℕ, List, Option, Ok, Err, IfOk, OnOk, OnErr, IsErrOf, length};
+ghost use Rattle.std.specs.Prelude.{◌≡◌, ◌≤◌, IfOk, IfErr, OnOk, OnErr, length, take};
 ghost use Rattle.tz_io.specs.declared.sink.PutError.TheVariants.{Failed as put_failed};
-ghost use Rattle.tz_io.specs.Counts.{Rose};
-ghost use Rattle.tz_io.specs.Sink.{Appends, AppendsPart, part_taken};
+ghost use Rattle.tz_io.specs.Sink.{SinkState, with_bytes, IsStall, Counts, StopsBy};
 
 use std::error::Error;
 use std::fmt;
@@ -58,47 +57,27 @@ impl From<Failed> for PutError {
 
 /// Something that takes bytes, in pieces.
 pub trait Sink {
-    /// All bytes taken so far, where the object tells them.
-    ghost taken: { Self → Option (List ℕ) };
+    /// All bytes taken so far, where the object tells them; how often a write has failed, and how often one took nothing
+    /// of a piece that was not empty, each up to the end of its type.
+    ghost state: { Self → SinkState };
 
-    /// How often a write has failed, up to the end of its type. No call makes it smaller, and a write that doesn't
-    /// fail leaves it as it was.
-    ghost faults: { Self → ℕ };
-
-    /// How often a write took nothing of a piece that was not empty, and did not fail. No call
-    /// makes it smaller.
-    ghost stalls: { Self → ℕ };
-
-    /// Takes the first bytes of the piece, and answers how many. `Failed` takes nothing. The count of faults rises
-    /// exactly where it comes.
+    /// Takes the first bytes of the piece, and answers how many. `Failed` takes nothing, and is counted. A write that
+    /// takes nothing of a piece that is not empty is counted too. Nothing else changes a count.
     fn write(&mut self, piece: &[u8]) -> Result<usize, Failed>
         ensures within { IfOk result (λ count. count ≤ length piece.now) }
-        ensures taken { Appends (taken self.old) (taken self.new) (part_taken result piece.now) }
-
-        ensures failed { OnErr result (Rose (faults self.old) (faults self.new)) }
-        ensures unharmed { OnOk result (faults self.new ≡ faults self.old) }
-        ensures later { faults self.old ≤ faults self.new }
-
-        // A stall is counted where a write took nothing of a piece that was not empty, and nowhere else.
-        ensures stalled { 0 < length piece.now → result ≡ Ok 0 → Rose (stalls self.old) (stalls self.new) }
-        ensures stalls_only { stalls self.old < stalls self.new → (0 < length piece.now) × (result ≡ Ok 0) }
-        ensures stalls_later { stalls self.old ≤ stalls self.new };
+        ensures taken { IfOk result (λ count. ¬ (IsStall count piece.now) →
+            state self.new ≡ with_bytes (state self.old) (take count piece.now)) }
+        ensures stalled { IfOk result (λ count. IsStall count piece.now →
+            Counts PutError.Stalled (state self.old) (state self.new)) }
+        ensures failed { OnErr result (Counts PutError.Failed (state self.old) (state self.new)) };
 }
 
-/// Writes until the whole text is taken. After an error a part of it was taken that is shorter than
-/// the text. `PutError::Failed` comes exactly where a write failed, and the count of faults rises nowhere else.
-/// `PutError::Stalled` comes exactly where a write took nothing of what was left. It takes no memory.
+/// Writes until the whole text is taken. An error comes exactly where it was counted, behind a part of the text that is
+/// shorter than all: `PutError::Failed` where a write failed, `PutError::Stalled` where one took nothing of what was
+/// left. It takes no memory.
 pub fn put_all<S: Sink>(sink: &mut S, text: &[u8]) -> Result<(), PutError>
-    ensures ok { OnOk result (Appends (S.taken sink.old) (S.taken sink.new) text.now) }
-    ensures err { OnErr result (AppendsPart (S.taken sink.old) (S.taken sink.new) text.now) }
-
-    ensures failed { IsErrOf result PutError.Failed → Rose (S.faults sink.old) (S.faults sink.new) }
-    ensures unharmed { result ≢ Err PutError.Failed → S.faults sink.new ≡ S.faults sink.old }
-    ensures later { S.faults sink.old ≤ S.faults sink.new }
-
-    ensures stalled { IsErrOf result PutError.Stalled → Rose (S.stalls sink.old) (S.stalls sink.new) }
-    ensures stalls_only { result ≢ Err PutError.Stalled → S.stalls sink.new ≡ S.stalls sink.old }
-    ensures stalls_later { S.stalls sink.old ≤ S.stalls sink.new }
+    ensures ok { OnOk result (S.state sink.new ≡ with_bytes (S.state sink.old) text.now) }
+    ensures err { IfErr result (λ error. StopsBy error (S.state sink.old) (S.state sink.new) text.now) }
 {
     let mut done = 0;
     while done < text.len() {

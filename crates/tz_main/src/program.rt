@@ -1,18 +1,18 @@
 //! The words of the command line, the command, and the status that the program ends with.
 ghost use Rattle.std.specs.Prelude.{◌≡◌};
 ghost use Rattle.std.specs.Process.{exit_status};
-ghost use Rattle.tz_cli.specs.Outcome.{exit_code};
-ghost use Rattle.tz_cli.specs.declared.status.Status.{Status as DeclaredStatus};
+ghost use Rattle.tz_words.specs.Status.{exit_code};
+ghost use Rattle.tz_words.specs.declared.status.Status.{Status as DeclaredStatus};
 
 use std::process::ExitCode;
 use std::rt::{Env, Files};
 use std::sync::Wait;
 use std::thread::Threads;
 use std::{env, io};
-use tz_cli::Status;
 use tz_io::{RealFiles, RealSink};
 use tz_run::OpenGate;
 use tz_top::run;
+use tz_words::Status;
 
 /// The words of the command line, without the program's name.
 fn words_of(rt: &(impl Env + AllocGlobal)) -> io::Result<Vec<String>> {

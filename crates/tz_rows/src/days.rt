@@ -2,7 +2,8 @@
 use crate::outside::{named_files, run};
 use crate::rows::answers;
 use std::test::Fail;
-use tz_cli::{Plain, Status};
+use tz_cli::Plain;
+use tz_words::Status;
 
 /// Days on which New York's clock leaves out an hour and shows one twice, a day that it leaves out and one that it shows
 /// twice, and days at both ends of time and past them.

@@ -4,9 +4,10 @@ use std::alloc::{AllocError, Global};
 use std::str;
 use std::test::Fail;
 use std::thread::Threads;
-use tz_cli::{Plain, Status};
+use tz_cli::Plain;
 use tz_io::{MemoryFiles, MemorySink};
 use tz_text::signed_number;
+use tz_words::Status;
 
 /// New York in 2024, whose first range begins in 2023 and whose last ends in 2025.
 const YEAR_2024: &str = "\

@@ -1,7 +1,8 @@
 //! Leap texts in which several causes hold, each with what is printed.
 use crate::outside::answer_over;
 use std::test::Fail;
-use tz_cli::{Plain, Status};
+use tz_cli::Plain;
+use tz_words::Status;
 
 /// Leap texts, each with the line that `clock` prints where 0 is asked for.
 const ORDER: [(&str, &str); 20] = [

@@ -1,7 +1,7 @@
 //! Local times: which ranges show them, and their instants under a choice.
 use crate::rows::answers;
 use std::test::Fail;
-use tz_cli::Status;
+use tz_words::Status;
 
 /// New York, whose clock leaves out an hour in March and shows one twice in November.
 const NEW_YORK: [(&str, Status, &str); 23] = [

@@ -6,7 +6,8 @@ use std::alloc::{AllocError, Global};
 use std::process::Abort;
 use std::test::Fail;
 use std::thread::Threads;
-use tz_cli::{Plain, Status};
+use tz_cli::Plain;
+use tz_words::Status;
 
 /// Asserts what a command prints over the files `S` and `T`.
 fn prints(

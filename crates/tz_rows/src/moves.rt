@@ -2,7 +2,8 @@
 use crate::outside::{named_files, run};
 use crate::rows::answers;
 use std::test::Fail;
-use tz_cli::{Plain, Status};
+use tz_cli::Plain;
+use tz_words::Status;
 
 /// New York in 2024, whose clock moves twice; a zone in which two lines show the same; one whose abbreviations
 /// have no bytes; and stretches that have no move, no

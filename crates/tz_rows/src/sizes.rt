@@ -5,7 +5,8 @@ use std::alloc::{AllocError, Global};
 use std::process::Abort;
 use std::test::Fail;
 use std::thread::Threads;
-use tz_cli::{Plain, Status};
+use tz_cli::Plain;
+use tz_words::Status;
 
 /// A comment of that many bytes with its newline.
 fn comment(alloc: Global, length: usize) -> Result<Vec<u8>, AllocError> {

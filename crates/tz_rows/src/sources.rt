@@ -5,7 +5,8 @@ use row_files::{blank_lines, files_of};
 use std::alloc::{AllocError, Global};
 use std::test::Fail;
 use std::thread::Threads;
-use tz_cli::{Plain, Status};
+use tz_cli::Plain;
+use tz_words::Status;
 
 /// Rule sets, zones and links of one file serve those of another, in any order; a continuation stands in the file of its zone.
 const FILES: [(&str, Status, &str); 15] = [

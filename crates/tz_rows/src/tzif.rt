@@ -3,7 +3,8 @@ use crate::outside::{answer_over, named_files, run};
 use crate::rows::answers;
 use std::alloc::{AllocError, Global};
 use std::test::Fail;
-use tz_cli::{Plain, Status};
+use tz_cli::Plain;
+use tz_words::Status;
 
 /// Years that have another form, that no file begins or ends with, or that aren't in order; zones that aren't there; and a zone
 /// of twelve designations, of which the last begins too far behind the first.

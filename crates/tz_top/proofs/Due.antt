@@ -6,11 +6,11 @@ use Rattle.tz_version.specs.declared.sources.Sources.{Sources}
 use Rattle.tz_batch.specs.declared.outcome.Outcome.{Outcome}
 use Rattle.tz_io.specs.Sink.{Appends}
 use Rattle.tz_batch.specs.OutcomeText.{outcome_text}
-use Rattle.tz_cli.specs.BatchCommand.{BatchCommand}
+use Rattle.tz_words.specs.BatchCommand.{BatchCommand}
 use Rattle.tz_cli.specs.Outcome.{FileContents, Failed}
 use Rattle.tz_cli.specs.Refusal.{IsRefusal, Gives, refusal_status, refusal_line}
-use Rattle.tz_cli.specs.declared.status.Status.{Status}
-use Rattle.tz_cli.specs.declared.status.Status.TheVariants as statuses
+use Rattle.tz_words.specs.declared.status.Status.{Status}
+use Rattle.tz_words.specs.declared.status.Status.TheVariants as statuses
 use Rattle.tz_cli.specs.declared.refusal.Refusal.{Refusal}
 use Rattle.tz_cli.specs.declared.refusal.Refusal.TheVariants as refusals
 use Rattle.tz_top.specs.Groups.{HoldsGroups, AnyFailed}

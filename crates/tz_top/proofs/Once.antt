@@ -13,10 +13,10 @@ use Rattle.tz_version.specs.declared.sources.TheConstants.{MOST_SOURCES}
 use Rattle.tz_version.specs.declared.sources.Sources.{Sources}
 use Rattle.tz_batch.specs.Answering.{IsAccepted}
 use Rattle.tz_cli.specs.Clock.{IsLeapRefusal}
-use Rattle.tz_cli.specs.NamedText.{NamedText}
-use Rattle.tz_cli.specs.BatchCommand.{BatchCommand}
-use Rattle.tz_cli.specs.declared.status.Status.{Status}
-use Rattle.tz_cli.specs.declared.status.Status.TheVariants as statuses
+use Rattle.tz_words.specs.NamedText.{NamedText}
+use Rattle.tz_words.specs.BatchCommand.{BatchCommand}
+use Rattle.tz_words.specs.declared.status.Status.{Status}
+use Rattle.tz_words.specs.declared.status.Status.TheVariants as statuses
 use Rattle.tz_cli.proofs.Once.{same_source}
 use Rattle.tz_top.specs.Groups.{is_too_large}
 use Rattle.tz_top.specs.BatchTexts.{AreSourcesOf, AreTextsOf}

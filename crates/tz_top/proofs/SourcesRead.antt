@@ -10,9 +10,9 @@ use Rattle.tz_types.specs.Source.{bytes_together}
 use Rattle.tz_types.specs.declared.source.Source.{Source}
 use Rattle.tz_version.specs.declared.sources.TheConstants.{MOST_SOURCES}
 use Rattle.tz_version.specs.declared.sources.Sources.{Sources}
-use Rattle.tz_cli.specs.NamedText.{NamedText, IsSourceOf}
-use Rattle.tz_cli.specs.BatchCommand.{BatchCommand, IsTextOf, text_in, name_texts, are_texts, texts_in}
-use Rattle.tz_cli.specs.Command.{leap_files}
+use Rattle.tz_words.specs.NamedText.{NamedText, IsSourceOf}
+use Rattle.tz_words.specs.BatchCommand.{BatchCommand, IsTextOf, text_in, name_texts, are_texts, texts_in}
+use Rattle.tz_words.specs.Command.{leap_files}
 use Rattle.tz_cli.specs.Outcome.{FileContents, MayReadAll}
 use Rattle.tz_top.specs.BatchTexts.{text_groups, AreSourcesOf, IsReadSource, AreReadSources, AreReadTexts}
 use Rattle.tz_top.proofs.Groups.{few_before, few_after, one_more_group}

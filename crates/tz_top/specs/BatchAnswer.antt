@@ -11,11 +11,11 @@ use Rattle.tz_batch.specs.OutcomeText.{outcome_text}
 use Rattle.tz_batch.specs.Positions.{PositionsCountWrites}
 use Rattle.tz_batch.specs.Run.{IsRun}
 use Rattle.tz_batch.specs.declared.outcome.Outcome.{Outcome}
-use Rattle.tz_cli.specs.BatchCommand.{BatchCommand}
+use Rattle.tz_words.specs.BatchCommand.{BatchCommand}
 use Rattle.tz_cli.specs.Clock.{IsLeapRefusal}
 use Rattle.tz_cli.specs.Line.{fault_line}
-use Rattle.tz_cli.specs.declared.status.Status.{Status}
-use Rattle.tz_cli.specs.declared.status.Status.TheVariants as statuses
+use Rattle.tz_words.specs.declared.status.Status.{Status}
+use Rattle.tz_words.specs.declared.status.Status.TheVariants as statuses
 use Rattle.tz_top.specs.BatchTexts.{AreTextsOf}
 use Rattle.tz_top.specs.Groups.{is_too_large}
 

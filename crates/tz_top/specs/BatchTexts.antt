@@ -5,9 +5,9 @@ use Rattle.tz_types.specs.declared.limit.TheConstants.{MOST_BYTES}
 use Rattle.tz_types.specs.Source.{bytes_together}
 use Rattle.tz_types.specs.declared.source.Source.{Source}
 use Rattle.tz_version.specs.declared.sources.Sources.{Sources}
-use Rattle.tz_cli.specs.NamedText.{NamedText, IsSourceOf}
-use Rattle.tz_cli.specs.BatchCommand.{BatchCommand}
-use Rattle.tz_cli.specs.Command.{leap_files}
+use Rattle.tz_words.specs.NamedText.{NamedText, IsSourceOf}
+use Rattle.tz_words.specs.BatchCommand.{BatchCommand}
+use Rattle.tz_words.specs.Command.{leap_files}
 use Rattle.tz_cli.specs.Outcome.{FileContents, MayReadAll}
 use Rattle.tz_top.specs.Groups.{MayReadGroups, is_too_large}
 

@@ -2,10 +2,10 @@
 use Rattle.std.specs.Prelude.{◌≡◌, ℕ, ◌⊎◌, List, Option, codes}
 use Rattle.tz_version.specs.declared.sources.Sources.{Sources}
 use Rattle.tz_batch.specs.declared.outcome.Outcome.{Outcome}
-use Rattle.tz_cli.specs.BatchCommand.{BatchCommand, IsBatchCommand}
+use Rattle.tz_words.specs.BatchCommand.{BatchCommand, IsBatchCommand}
 use Rattle.tz_cli.specs.Outcome.{FileContents, IsDue}
-use Rattle.tz_cli.specs.declared.status.Status.{Status}
-use Rattle.tz_cli.specs.declared.status.Status.TheVariants as statuses
+use Rattle.tz_words.specs.declared.status.Status.{Status}
+use Rattle.tz_words.specs.declared.status.Status.TheVariants as statuses
 use Rattle.tz_top.specs.Groups.{MayReadGroups, FailsToReadGroups, ReadsTooMuchOfGroups}
 use Rattle.tz_top.specs.BatchTexts.{file_groups, AreReadTexts}
 use Rattle.tz_top.specs.BatchAnswer.{IsBatchOutcome, IsBatchAnswer}

@@ -2,19 +2,20 @@
 ghost use Rattle.std.specs.Prelude.{◌≡◌, ◌≢◌, ◌⊎◌, ℕ, List};
 ghost use Rattle.tz_io.specs.Counts.{Rose};
 ghost use Rattle.tz_io.specs.Sink.{Appends, AppendsPart};
-ghost use Rattle.tz_cli.specs.Command.{batch_meant};
+ghost use Rattle.tz_words.specs.Command.{batch_meant};
 ghost use Rattle.tz_cli.specs.Outcome.{Failed};
 ghost use Rattle.tz_cli.specs.Refusal.{Gives};
-ghost use Rattle.tz_cli.specs.declared.status.Status.{Status as DeclaredStatus};
+ghost use Rattle.tz_words.specs.declared.status.Status.{Status as DeclaredStatus};
 ghost use Rattle.tz_top.specs.Due.{IsBatchDue};
 
 use crate::outcome::batch_text;
 use crate::texts::read_texts;
 use std::alloc::Global;
 use std::sync::Wait;
-use tz_cli::{BatchLine, Refusal, Status, print, print_refusal};
+use tz_cli::{Refusal, print, print_refusal};
 use tz_io::{Files, Sink};
 use tz_run::Gate;
+use tz_words::{BatchLine, Status};
 
 /// What a batch comes to.
 fn answer<F: Files, G: Gate>(

@@ -2,19 +2,20 @@
 ghost use Rattle.std.specs.Prelude.{◌≡◌, ◌≤◌, ℕ, List, length, IsTrue, IsSome, IfOk, IfErr, OnOk};
 ghost use Rattle.std.specs.List.{concat};
 ghost use Rattle.tz_types.specs.declared.limit.TheConstants.{MOST_BYTES};
-ghost use Rattle.tz_cli.specs.NamedText.{NamedText, named_text_of};
-ghost use Rattle.tz_cli.specs.BatchCommand.{IsTextOf, name_texts, texts_in};
-ghost use Rattle.tz_cli.specs.Command.{batch_meant};
+ghost use Rattle.tz_words.specs.NamedText.{NamedText, named_text_of};
+ghost use Rattle.tz_words.specs.BatchCommand.{IsTextOf, name_texts, texts_in};
+ghost use Rattle.tz_words.specs.Command.{batch_meant};
 ghost use Rattle.tz_cli.specs.Outcome.{Failed};
 ghost use Rattle.tz_cli.specs.Refusal.{RefusesContents};
 ghost use Rattle.tz_top.specs.BatchTexts.{file_groups, text_groups, IsReadSource, AreReadSources, AreReadTexts};
 ghost use Rattle.tz_top.specs.Refusal.{RefusesGroups};
 
 use std::alloc::Global;
-use tz_cli::{BatchLine, Refusal, TextWord, read_files, read_leaps, read_one};
+use tz_cli::{Refusal, read_files, read_leaps, read_one};
 use tz_io::Files;
 use tz_types::{Items, Source, Text};
 use tz_version::Sources;
+use tz_words::{BatchLine, TextWord};
 
 /// What a batch reads: the text of its script, and its sources.
 #[derive(Drop)]

@@ -6,10 +6,10 @@ ghost use Rattle.tz_io.specs.Sink.{Appends, AppendsPart};
 ghost use Rattle.tz_batch.specs.OutcomeText.{outcome_text};
 ghost use Rattle.tz_batch.specs.declared.outcome.Outcome.{Outcome};
 ghost use Rattle.tz_cli.specs.Answer.{IsAnswer};
-ghost use Rattle.tz_cli.specs.BatchCommand.{BatchCommand, IsBatchCommand};
-ghost use Rattle.tz_cli.specs.Command.{Command, IsCommand, IsNoCommand, words_of, files_of};
+ghost use Rattle.tz_words.specs.BatchCommand.{BatchCommand, IsBatchCommand};
+ghost use Rattle.tz_words.specs.Command.{Command, IsCommand, IsNoCommand, words_of, files_of};
 ghost use Rattle.tz_cli.specs.Outcome.{Holds, Failed};
-ghost use Rattle.tz_cli.specs.declared.status.Status.{Status as DeclaredStatus};
+ghost use Rattle.tz_words.specs.declared.status.Status.{Status as DeclaredStatus};
 ghost use Rattle.tz_top.specs.Groups.{HoldsGroups, AnyFailed};
 ghost use Rattle.tz_top.specs.BatchTexts.{file_groups};
 ghost use Rattle.tz_top.specs.BatchAnswer.{IsBatchAnswer, IsAcceptedBatch};
@@ -19,9 +19,10 @@ use crate::batch::run_batch;
 use std::alloc::Global;
 use std::sync::Wait;
 use std::thread::Threads;
-use tz_cli::{BatchLine, Plain, Status, run_plain};
+use tz_cli::{Plain, run_plain};
 use tz_io::{Files, Sink};
 use tz_run::Gate;
+use tz_words::{BatchLine, Status};
 
 /// Does a whole command, any that `run_plain` does or `batch`, and answers its status. `batch SCRIPT SLOTS LEAPS TEXT..`
 /// runs the script over a list of so many slots, with the version of the first text in it, and prints the outcome at

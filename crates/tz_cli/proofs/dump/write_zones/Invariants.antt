@@ -6,7 +6,7 @@ use Rattle.tz_cli.proofs.dump.write_zones.Given as goal
 abbrev pub invariant-loop-rest : goal.invariant-loop-rest
 invariant-loop-rest g l = record {
   done : List ℕ;
-  put : IsPut (g.S.Sink.faults l.initial.sink, g.S.Sink.stalls l.initial.sink) (g.S.Sink.faults l.sink, g.S.Sink.stalls l.sink) (g.S.Sink.taken l.initial.sink) (g.S.Sink.taken l.sink) [] l.waiting.items done;
+  put : IsPut (g.S.Sink.state l.initial.sink) (g.S.Sink.state l.sink) [] l.waiting.items done;
   all : done ++ compiled_texts l.from l.to l.rest ≡ compiled_texts l.from l.to l.zones;
 }
 

@@ -1,40 +1,37 @@
-use Rattle.std.proofs.Common.{◌≡◌, ◌≢◌, codes, inl, inr, refl, sym, ap, subst, ◌∙◌, ⊎_elim, rules}
-use Rattle.tz_cli.specs.Command.{IsNoCommand, meant, words_of}
-use Rattle.tz_cli.specs.Outcome.{Failed, IsDueFor, IsDue}
-use Rattle.tz_cli.specs.declared.status.Status.{Status}
-use Rattle.tz_cli.specs.declared.status.Status.TheVariants as statuses
-use Rattle.tz_cli.specs.declared.status.Plain.TheVariants.{Done}
+use Rattle.std.proofs.Common.{◌≡◌, ℕ, List, codes, inl, inr, refl, ap, subst, ⊎_elim, rules}
+use Rattle.tz_words.specs.Command.{Command, IsNoCommand, meant, words_of}
+use Rattle.tz_words.specs.declared.status.Status.{Status}
+use Rattle.tz_words.specs.declared.status.Status.TheVariants as statuses
+use Rattle.tz_cli.specs.Outcome.{IsDueFor, IsDue, Prints, Exactly}
+use Rattle.tz_cli.specs.declared.top.Plain.TheVariants.{Done}
 use Rattle.tz_cli.proofs.Once.{one_command}
 use Rattle.tz_cli.proofs.Due.{for_words, one_due}
+use Rattle.tz_cli.proofs.Outputs.{prints_as, due_at}
 use Rattle.tz_cli.proofs.top.run_plain.Goals as goal
 
-pub returns-in-Some-clause-whole : goal.returns-in-Some-clause-whole
-returns-in-Some-clause-whole g c = λ status is not_write.
-    let told = g.F.Files.told c.args.files.now in
-    let failed = Failed (g.F.Files.faults c.args.files.now) (g.F.Files.faults c.run_command.new.files) in
+pub returns-in-Some-clause-due : goal.returns-in-Some-clause-due
+returns-in-Some-clause-due g c = λ status is.
+    let words = words_of c.args.words.now in
+    let command = meant c.in-Some.command in
+    let before = g.F.Files.state c.args.files.now in
+    let after = g.F.Files.state c.run_command.new.files in
+    let had = g.S.Sink.state c.args.sink.now in
+    let has = g.S.Sink.state c.run_command.new.sink in
     let ended : c.run_command.result ≡ status = cc in
-    let whole = c.run_command.ensures.whole (λ write. not_write (sym ended ∙ write)) in
-    let due = subst (λ (status : Status). IsDueFor (meant c.in-Some.command) told failed status whole.0) ended whole.1 in
-    (whole.0, for_words (words_of c.args.words.now) told failed (meant c.in-Some.command) status whole.0 c.in-Some.ensures.some due, whole.2)
+    let printed = subst (λ (status : Status). Prints (IsDueFor command before after) status had has) ended c.run_command.ensures.due in
+    prints_as (IsDueFor command before after) (IsDue words before after) status had has (λ status line due. for_words words before after command status line c.in-Some.ensures.some due) printed
 
-pub returns-in-Some-clause-part : goal.returns-in-Some-clause-part
-returns-in-Some-clause-part g c = λ is.
-    let told = g.F.Files.told c.args.files.now in
-    let failed = Failed (g.F.Files.faults c.args.files.now) (g.F.Files.faults c.run_command.new.files) in
-    let ended : c.run_command.result ≡ statuses.Write = cc in
-    let part = c.run_command.ensures.part ended in
-    let due = for_words (words_of c.args.words.now) told failed (meant c.in-Some.command) part.0 part.1 c.in-Some.ensures.some part.2 in
-    (part.0, part.1, due, part.3)
-
-pub returns-in-None-clause-whole : goal.returns-in-None-clause-whole
-returns-in-None-clause-whole g c = λ status is not_write.
+pub returns-in-None-clause-due : goal.returns-in-None-clause-due
+returns-in-None-clause-due g c = λ status is.
+    let words = words_of c.args.words.now in
+    let files = g.F.Files.state c.args.files.now in
+    let had = g.S.Sink.state c.args.sink.now in
+    let has = g.S.Sink.state c.print.new.sink in
     let ended : c.print.result ≡ status = cc in
-    let never_wrote : c.print.result ≢ statuses.Write = λ wrote. not_write (sym ended ∙ wrote) in
-    let usage : statuses.Usage ≡ status = sym (c.print.ensures.same never_wrote) ∙ ended in
-    let none : IsNoCommand (words_of c.args.words.now) = record { other = c.in-None.ensures.none (search rules); no_batch = c.new.ensures.none (search rules) } in
-    let told = g.F.Files.told c.args.files.now in
-    let failed = Failed (g.F.Files.faults c.args.files.now) (g.F.Files.faults c.args.files.now) in
-    (codes "usage\n", subst (λ (status : Status). IsDue (words_of c.args.words.now) told failed status (codes "usage\n")) usage (none, refl), c.print.ensures.whole never_wrote)
+    let none : IsNoCommand words = record { other = c.in-None.ensures.none (search rules); no_batch = c.new.ensures.none (search rules) } in
+    let usage : IsDue words files files statuses.Usage (codes "usage\n") = (none, refl) in
+    let printed = subst (λ (status : Status). Prints (Exactly statuses.Usage (codes "usage\n")) status had has) ended c.print.ensures in
+    prints_as (Exactly statuses.Usage (codes "usage\n")) (IsDue words files files) status had has (λ (at : Status) (line : List ℕ) exactly. rw (exactly.0, exactly.1) usage) printed
 
 pub returns-in-None-clause-usage : goal.returns-in-None-clause-usage
 returns-in-None-clause-usage g c = λ is.
@@ -46,17 +43,12 @@ returns-in-None-clause-shared g c = (
   λ batch. absurd (c.new.ensures.none (search rules) batch.0 batch.1),
 )
 
-pub returns-in-None-clause-part : goal.returns-in-None-clause-part
-returns-in-None-clause-part g c = λ is.
-    let ended : c.print.result ≡ statuses.Write = cc in
-    (statuses.Usage, codes "usage\n", (record { other = c.in-None.ensures.none (search rules); no_batch = c.new.ensures.none (search rules) }, refl), c.print.ensures.part ended)
-
 pub returns-in-Some-clause-exact : goal.returns-in-Some-clause-exact
-returns-in-Some-clause-exact g c = λ command contents status line is holds answer fine no_fault no_stall.
-    let files = g.F.Files.told c.args.files.now in
-    let failed = Failed (g.F.Files.faults c.args.files.now) (g.F.Files.faults c.run_command.new.files) in
+returns-in-Some-clause-exact g c = λ command contents status line is holds answer no_fault fine.
+    let before = g.F.Files.state c.args.files.now in
+    let after = g.F.Files.state c.run_command.new.files in
     let ended = c.run_command.result in
-    let whole = c.run_command.ensures.whole (λ write. ⊎_elim no_fault no_stall (c.run_command.ensures.write write)) in
+    let due = due_at (IsDueFor (meant c.in-Some.command) before after) ended (g.S.Sink.state c.args.sink.now) (g.S.Sink.state c.run_command.new.sink) fine c.run_command.ensures.due in
     let same = one_command (words_of c.args.words.now) (meant c.in-Some.command) command c.in-Some.ensures.some is in
-    let due = rw same at whole.1 in
-    ⊎_elim (λ (e : ended ≡ status). inl (ap Done e)) (λ (e : ended ≡ statuses.Memory). inr (ap Done e)) (one_due command files failed contents status ended line whole.0 holds answer fine due)
+    let here = subst (λ (command : Command). IsDueFor command before after ended due.0) same due.1 in
+    ⊎_elim (λ (e : ended ≡ status). inl (ap Done e)) (λ (e : ended ≡ statuses.Memory). inr (ap Done e)) (one_due command before after contents status ended line due.0 holds answer no_fault here)

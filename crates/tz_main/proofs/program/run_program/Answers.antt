@@ -1,5 +1,5 @@
 use Rattle.std.proofs.Common.{◌∙◌}
-use Rattle.tz_cli.specs.declared.status.Status.TheVariants as statuses
+use Rattle.tz_words.specs.declared.status.Status.TheVariants as statuses
 use Rattle.tz_main.proofs.program.run_program.Goals as goal
 
 -- src/program.rt:35:19

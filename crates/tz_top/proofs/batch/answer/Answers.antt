@@ -1,4 +1,4 @@
-use Rattle.tz_cli.specs.Command.{batch_meant}
+use Rattle.tz_words.specs.Command.{batch_meant}
 use Rattle.tz_cli.specs.Outcome.{Failed}
 use Rattle.tz_top.proofs.Due.{gives_due}
 use Rattle.tz_top.proofs.batch.answer.Goals as goal

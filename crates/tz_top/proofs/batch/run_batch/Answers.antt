@@ -1,9 +1,9 @@
 use Rattle.std.proofs.Common.{codes, inl, inr, refl, subst, List, ℕ}
 use Rattle.tz_io.specs.Sink.{AppendsPart}
-use Rattle.tz_cli.specs.Command.{batch_meant}
+use Rattle.tz_words.specs.Command.{batch_meant}
 use Rattle.tz_cli.specs.Outcome.{Failed}
 use Rattle.tz_cli.specs.Refusal.{refusal_status, refusal_line}
-use Rattle.tz_cli.specs.declared.status.Status.TheVariants as statuses
+use Rattle.tz_words.specs.declared.status.Status.TheVariants as statuses
 use Rattle.tz_top.proofs.Due.{refusal_due}
 use Rattle.tz_top.proofs.batch.run_batch.Goals as goal
 

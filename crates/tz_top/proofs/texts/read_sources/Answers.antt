@@ -1,6 +1,6 @@
 use Rattle.std.proofs.Common.{◌≡◌, ◌<◌, ◌∷◌, ◌++◌, [], length, take, drop, Option, ap, ◌∙◌, subst, rules, ◌+◌}
-use Rattle.tz_cli.specs.NamedText.{named_text_of}
-use Rattle.tz_cli.specs.BatchCommand.{IsTextOf, texts_in}
+use Rattle.tz_words.specs.NamedText.{named_text_of}
+use Rattle.tz_words.specs.BatchCommand.{IsTextOf, texts_in}
 use Rattle.tz_cli.specs.Outcome.{FileContents, Failed}
 use Rattle.tz_top.specs.BatchTexts.{text_groups, IsReadSource}
 use Rattle.tz_top.proofs.Groups.{group_refused, contents_since}

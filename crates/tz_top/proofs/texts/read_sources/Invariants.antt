@@ -1,5 +1,5 @@
 use Rattle.std.proofs.Common.{◌≡◌, ℕ, List, take}
-use Rattle.tz_cli.specs.BatchCommand.{texts_in}
+use Rattle.tz_words.specs.BatchCommand.{texts_in}
 use Rattle.tz_top.specs.BatchTexts.{AreReadSources}
 use Rattle.tz_top.proofs.texts.read_sources.Given as goal
 

@@ -1,6 +1,6 @@
 use Rattle.std.proofs.Common.{◌≡◌, [], ◌∷◌, length, Option, refl, ap, ◌∙◌, subst, arith}
 use Rattle.tz_types.specs.Source.{bytes_together}
-use Rattle.tz_cli.specs.Command.{leap_files, batch_meant}
+use Rattle.tz_words.specs.Command.{leap_files, batch_meant}
 use Rattle.tz_cli.specs.Outcome.{FileContents, MayReadAll, Failed}
 use Rattle.tz_cli.proofs.Contents.{concat_long}
 use Rattle.tz_top.specs.BatchTexts.{text_groups, file_groups, AreReadSources}

@@ -1,12 +1,12 @@
 use Rattle.std.proofs.Common.{◌≡◌, ℕ, List, Option, inl, refl, subst, ⊎_elim}
 use Rattle.tz_io.specs.Counts.{Rose}
 use Rattle.tz_io.specs.Sink.{Appends, AppendsPart}
-use Rattle.tz_cli.specs.BatchCommand.{BatchCommand}
-use Rattle.tz_cli.specs.Command.{batch_meant, words_of}
+use Rattle.tz_words.specs.BatchCommand.{BatchCommand}
+use Rattle.tz_words.specs.Command.{batch_meant, words_of}
 use Rattle.tz_cli.specs.Outcome.{Failed}
-use Rattle.tz_cli.specs.declared.status.Status.{Status}
-use Rattle.tz_cli.specs.declared.status.Status.TheVariants as statuses
-use Rattle.tz_cli.proofs.BatchWords.{one_batch}
+use Rattle.tz_words.specs.declared.status.Status.{Status}
+use Rattle.tz_words.specs.declared.status.Status.TheVariants as statuses
+use Rattle.tz_words.proofs.BatchWords.{one_batch}
 use Rattle.tz_top.specs.Due.{IsBatchDue}
 use Rattle.tz_top.proofs.Due.{due_since, outcome_due, one_batch_due, accepted_due}
 use Rattle.tz_top.proofs.top.run.Goals as goal

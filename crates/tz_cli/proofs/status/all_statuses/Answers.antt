@@ -1,5 +1,0 @@
-use Rattle.tz_cli.proofs.Statuses.{every_status}
-use Rattle.tz_cli.proofs.status.all_statuses.Goals as goal
-
-pub returns : goal.returns
-returns c = every_status

@@ -1,0 +1,5 @@
+pub mod FewWords
+pub mod Parts
+pub mod BatchWords
+pub mod Forms
+pub mod Statuses

@@ -1,0 +1,5 @@
+pub mod NamedText
+pub mod BatchCommand
+pub mod Command
+pub mod Form
+pub mod Status
