@@ -19,6 +19,8 @@ mod shelf;
 mod sitting;
 mod steps;
 mod table;
+#[cfg(test)]
+mod tests;
 
 pub use cell::Cell;
 pub use copies::Copies;
