@@ -26,7 +26,7 @@ for file in crates/*/specs/*.antt; do
     crate=${file#crates/}
     name=${file##*/}
     sed -nE 's/^(unfoldable |abbrev )*pub (record |data )?([^ :({]+).*/\3/p' "$file" |
-        grep -v '^mod$' | sed "s|^|${crate%%/*}/${name%.antt} |"
+        grep -vE '^(mod|use)$' | sed "s|^|${crate%%/*}/${name%.antt} |"
 done | sort -u >"$room/defined"
 
 # The same of each row of docs/MEANING.md that has a file in its second column.

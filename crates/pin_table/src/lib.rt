@@ -1,4 +1,26 @@
-//! The list of versions that threads share.
+//! The list of versions that threads share: versions in a fixed number of slots, over atomic words.
+//!
+//! A `PinTable` keeps versions of any payload, not only time zones. Each thread works on it through a `Reader` of its own,
+//! which the `Main` sends out and takes in again. `look` loads the front word and waits for nobody. A table is closed once
+//! no reader is out, and gives its book.
+//!
+//! The rule of the table (`specs/Rule`) is that its words, its seats and what stands at home are at each moment those of a
+//! state that the steps of `pin_core` reach, so all that `pin_core` says of such states holds of the table, over every
+//! interleaving. `steps` has the atomic steps of all seven kinds, each of which keeps the rule and tells its seat what
+//! `pin_core`'s step of that kind makes of it. `exchange` is the one place where a slot of the base is exchanged. No call
+//! takes a lock. Public calls that pin, release, push, erase and list stand on these steps, and aren't here yet.
+//!
+//! ```rust
+//! // a list of 4 slots, for 2 readers, with room for 8 writes
+//! let (table, mut main) = PinTable::new(alloc, first, 4, 2, 8)?;
+//! // a reader that may make 3 of them
+//! let mut reader = main.split(&table, 3)?;
+//! // the front after no write is version 1, in slot 0
+//! let front = reader.look();
+//! assert_eq!(rt; (front.w, front.n, front.slot), (0, 1, 0));
+//! main.join(reader);
+//! let book = table.close(main);
+//! ```
 #![tactic(auto)]
 
 mod cell;
