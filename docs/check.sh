@@ -25,7 +25,10 @@ compare() {
 for file in crates/*/specs/*.antt; do
     crate=${file#crates/}
     name=${file##*/}
-    sed -nE 's/^(unfoldable |abbrev )*pub (record |data )?([^ :({]+).*/\3/p' "$file" |
+    # (within a module, what follows `pub` alone is a field)
+    sed -nE 's/^(unfoldable |abbrev )*pub (record |data )?([^ :({]+).*/\3/p
+        s/^ +(unfoldable |abbrev )+pub ([^ :({]+).*/\2/p
+        s/^ +pub (record|data) ([^ :({]+).*/\2/p' "$file" |
         grep -vE '^(mod|use)$' | sed "s|^|${crate%%/*}/${name%.antt} |"
 done | sort -u >"$room/defined"
 
