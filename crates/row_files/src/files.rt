@@ -1,7 +1,7 @@
 //! Files in memory.
-ghost use Rattle.std.specs.Prelude.{◌≡◌, ◌++◌, ◌∷◌, [], map, IfOk, OnOk};
+ghost use Rattle.std.specs.Prelude.{◌≡◌, ◌++◌, ◌∷◌, [], Some, map, IfOk, OnOk};
 ghost use Rattle.tz_io.specs.Entries.{entry_contents};
-ghost use Rattle.tz_io.specs.MemoryFiles.{files_contents, files_calls, files_failing};
+ghost use Rattle.tz_io.specs.MemoryFiles.{files_state, files_calls, files_failing};
 ghost use Rattle.row_files.specs.Entries.{names_and_bytes};
 
 use crate::texts::TEXTS;
@@ -15,7 +15,7 @@ pub fn failing_files(
     list: Vec<(String, Vec<u8>)>,
     failing: Vec<u32>,
 ) -> Result<MemoryFiles, AllocError>
-    ensures contents { IfOk result (λ files. files_contents files ≡ entry_contents list.items) }
+    ensures contents { IfOk result (λ files. (files_state files).contents ≡ Some (entry_contents list.items)) }
     ensures failing { IfOk result (λ files. files_failing files ≡ failing.items) }
     ensures calls { IfOk result (λ files. files_calls files ≡ 0) }
 {
@@ -27,7 +27,7 @@ pub fn failing_files(
 
 /// Files of these names and contents, of which no read fails but of a name that isn't there.
 pub fn files_of(alloc: Global, list: Vec<(String, Vec<u8>)>) -> Result<MemoryFiles, AllocError>
-    ensures contents { IfOk result (λ files. files_contents files ≡ entry_contents list.items) }
+    ensures contents { IfOk result (λ files. (files_state files).contents ≡ Some (entry_contents list.items)) }
     ensures failing { IfOk result (λ files. files_failing files ≡ []) }
 {
     failing_files(alloc, list, Vec::new(alloc))

@@ -24,7 +24,8 @@ fn read_file<F: Files>(
     ensures content { IfOk result (λ content. MayRead (F.state files.old) name.now content.items) }
     ensures short { IfOk result (λ content. length content.items ≤ left) }
     ensures unharmed { OnOk result (F.state files.new ≡ F.state files.old) }
-    ensures refused { IfErr result (λ refusal. RefusesFile (F.state files.old) (F.state files.new) name.now left refusal) }
+    ensures refused { IfErr result (λ refusal.
+        RefusesFile (F.state files.old) (F.state files.new) name.now left refusal) }
     ensures kept { (F.state files.new).contents ≡ (F.state files.old).contents }
 {
     let content = match files.read(alloc, name, left) {
@@ -48,7 +49,8 @@ pub fn read_files<F: Files>(
     ensures contents { IfOk result (λ contents. MayReadAll (F.state files.old) (parts_of names.now) contents) }
     ensures short { IfOk result (λ contents. bytes_together contents ≤ MOST_BYTES) }
     ensures unharmed { OnOk result (F.state files.new ≡ F.state files.old) }
-    ensures refused { IfErr result (λ refusal. RefusesContents (F.state files.old) (F.state files.new) (parts_of names.now) refusal) }
+    ensures refused { IfErr result (λ refusal.
+        RefusesContents (F.state files.old) (F.state files.new) (parts_of names.now) refusal) }
     ensures kept { (F.state files.new).contents ≡ (F.state files.old).contents }
 {
     let mut contents = Items::new(alloc);
@@ -74,7 +76,8 @@ pub fn read_one<F: Files>(alloc: Global, name: &str, files: &mut F) -> Result<It
     ensures contents { IfOk result (λ contents. MayReadAll (F.state files.old) (name.now ∷ []) contents) }
     ensures short { IfOk result (λ contents. bytes_together contents ≤ MOST_BYTES) }
     ensures unharmed { OnOk result (F.state files.new ≡ F.state files.old) }
-    ensures refused { IfErr result (λ refusal. RefusesContents (F.state files.old) (F.state files.new) (name.now ∷ []) refusal) }
+    ensures refused { IfErr result (λ refusal.
+        RefusesContents (F.state files.old) (F.state files.new) (name.now ∷ []) refusal) }
     ensures kept { (F.state files.new).contents ≡ (F.state files.old).contents }
 {
     let content = match read_file(alloc, name, MOST_BYTES, files) {
@@ -97,7 +100,8 @@ pub fn read_leaps<F: Files>(
     ensures contents { IfOk result (λ contents. MayReadAll (F.state files.old) (leap_files leaps.now) contents) }
     ensures short { IfOk result (λ contents. bytes_together contents ≤ MOST_BYTES) }
     ensures unharmed { OnOk result (F.state files.new ≡ F.state files.old) }
-    ensures refused { IfErr result (λ refusal. RefusesContents (F.state files.old) (F.state files.new) (leap_files leaps.now) refusal) }
+    ensures refused { IfErr result (λ refusal.
+        RefusesContents (F.state files.old) (F.state files.new) (leap_files leaps.now) refusal) }
     ensures kept { (F.state files.new).contents ≡ (F.state files.old).contents }
 {
     match leaps {
@@ -112,9 +116,11 @@ pub fn contents_of<F: Files>(
     command: CommandLine<'_>,
     files: &mut F,
 ) -> Result<Items<Text>, Refusal>
-    ensures contents { IfOk result (λ contents. MayReadAll (F.state files.old) (files_of (meant command.entry)) contents) }
+    ensures contents { IfOk result (λ contents.
+        MayReadAll (F.state files.old) (files_of (meant command.entry)) contents) }
     ensures short { IfOk result (λ contents. bytes_together contents ≤ MOST_BYTES) }
-    ensures refused { IfErr result (λ refusal. RefusesContents (F.state files.old) (F.state files.new) (files_of (meant command.entry)) refusal) }
+    ensures refused { IfErr result (λ refusal.
+        RefusesContents (F.state files.old) (F.state files.new) (files_of (meant command.entry)) refusal) }
     ensures kept { (F.state files.new).contents ≡ (F.state files.old).contents }
 {
     match command {

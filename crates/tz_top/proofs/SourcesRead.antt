@@ -8,12 +8,14 @@ use Rattle.std.proofs.lemmas.List.Elements.{filter_map-append}
 use Rattle.tz_types.specs.declared.limit.TheConstants.{MOST_BYTES}
 use Rattle.tz_types.specs.Source.{bytes_together}
 use Rattle.tz_types.specs.declared.source.Source.{Source}
+use Rattle.tz_script.specs.declared.limit.TheConstants.{LAST_SOURCE}
 use Rattle.tz_version.specs.declared.sources.TheConstants.{MOST_SOURCES}
 use Rattle.tz_version.specs.declared.sources.Sources.{Sources}
 use Rattle.tz_words.specs.NamedText.{NamedText, IsSourceOf}
 use Rattle.tz_words.specs.BatchCommand.{BatchCommand, IsTextOf, text_in, name_texts, are_texts, texts_in}
 use Rattle.tz_words.specs.Command.{leap_files}
-use Rattle.tz_cli.specs.Outcome.{FileContents, MayReadAll}
+use Rattle.tz_io.specs.Files.{FilesState}
+use Rattle.tz_cli.specs.Outcome.{MayReadAll}
 use Rattle.tz_top.specs.BatchTexts.{text_groups, AreSourcesOf, IsReadSource, AreReadSources, AreReadTexts}
 use Rattle.tz_top.proofs.Groups.{few_before, few_after, one_more_group}
 
@@ -71,15 +73,15 @@ texts_with : (words : List (String Global)) (word : String Global) (text : Named
 texts_with words word text is = filter_map-append text_in words (word ∷ []) ∙ rw is refl
 
 -- one more is read
-pub next_source : (told : Option FileContents) (words : List (String Global)) (i : ℕ) (word : String Global) (text : NamedText) (sources : List Source) (source : Source) → i < length words → word ≡ get_or words i word → IsTextOf (string_bytes word) text → AreReadSources told (texts_in (take i words)) sources → IsReadSource told text source → AreReadSources told (texts_in (take (i + 1) words)) (sources ++ source ∷ [])
-next_source told words i word text sources source within at is have one =
+pub next_source : (files : FilesState) (words : List (String Global)) (i : ℕ) (word : String Global) (text : NamedText) (sources : List Source) (source : Source) → i < length words → word ≡ get_or words i word → IsTextOf (string_bytes word) text → AreReadSources files (texts_in (take i words)) sources → IsReadSource files text source → AreReadSources files (texts_in (take (i + 1) words)) (sources ++ source ∷ [])
+next_source files words i word text sources source within at is have one =
     let before = texts_in (take i words) in
     let front : take (i + 1) words ≡ take i words ++ word ∷ [] = take_more words i word within ∙ ap (λ (it : String Global). take i words ++ it ∷ []) (sym at) in
     let texts : texts_in (take (i + 1) words) ≡ before ++ text ∷ [] = ap texts_in front ∙ texts_with (take i words) word text is in
     let groups : text_groups (before ++ text ∷ []) ≡ text_groups before ++ text.files ∷ [] = map-append (λ (text : NamedText). text.files) before (text ∷ []) in
     rw texts (record {
       contents = have.contents ++ one.contents ∷ [];
-      read = rw groups (one_more_group told (text_groups before) have.contents text.files one.contents have.read one.read);
+      read = rw groups (one_more_group files (text_groups before) have.contents text.files one.contents have.read one.read);
       few_bytes = few_after have.contents one.contents have.few_bytes one.few_bytes;
       are = one_more_source before have.contents sources text one.contents source have.are one.is;
     })
@@ -94,25 +96,25 @@ groups_at words i word text within at is =
     ap text_groups texts ∙ map-append (λ (text : NamedText). text.files) (texts_in (take i words)) (text ∷ texts_in (drop (i + 1) words))
 
 -- the sources of one to 64 words
-pub some_sources : (told : Option FileContents) (words : List (String Global)) (sources : List Source) → are_texts words ≡ true → AreReadSources told (texts_in words) sources → (1 ≤ length sources) × (length sources ≤ MOST_SOURCES)
-some_sources told words sources are have =
-    let both = and_parts (nat_le 1 (length words) && nat_le (length words) MOST_SOURCES) (name_texts words) are in
-    let range = and_parts (nat_le 1 (length words)) (nat_le (length words) MOST_SOURCES) both.0 in
+pub some_sources : (files : FilesState) (words : List (String Global)) (sources : List Source) → are_texts words ≡ true → AreReadSources files (texts_in words) sources → (1 ≤ length sources) × (length sources ≤ MOST_SOURCES)
+some_sources files words sources are have =
+    let both = and_parts (nat_le 1 (length words) && nat_le (length words) (LAST_SOURCE + 1)) (name_texts words) are in
+    let range = and_parts (nat_le 1 (length words)) (nat_le (length words) (LAST_SOURCE + 1)) both.0 in
     let low = leb-true 1 (length words) range.0 in
-    let high = leb-true (length words) MOST_SOURCES range.1 in
+    let high = leb-true (length words) (LAST_SOURCE + 1) range.1 in
     let long : length sources ≡ length words = each_source (texts_in words) have.contents sources have.are ∙ each_named words both.1 in
     (omega (arith, low, long), omega (arith, high, long))
 
 -- the contents of one file are one
-lone : (told : Option FileContents) (name : List ℕ) (contents : List (List ℕ)) → MayReadAll told (name ∷ []) contents → contents ≡ concat contents ∷ []
-lone told name [] read = absurd read
-lone told name (c ∷ []) read = ap (λ (it : List ℕ). it ∷ []) (sym (append-nil c))
-lone told name (c ∷ d ∷ contents) read = absurd read.1
+lone : (files : FilesState) (name : List ℕ) (contents : List (List ℕ)) → MayReadAll files (name ∷ []) contents → contents ≡ concat contents ∷ []
+lone files name [] read = absurd read
+lone files name (c ∷ []) read = ap (λ (it : List ℕ). it ∷ []) (sym (append-nil c))
+lone files name (c ∷ d ∷ contents) read = absurd read.1
 
 -- what was read of the script's file, of the leap text's and of the texts are the texts of the batch
-pub texts_read : (told : Option FileContents) (batch : BatchCommand) (script_file leap_file : List (List ℕ)) (script : List ℕ) (sources : Sources) → MayReadAll told (batch.script ∷ []) script_file → bytes_together script_file ≤ MOST_BYTES → script ≡ concat script_file → MayReadAll told (leap_files batch.leaps) leap_file → bytes_together leap_file ≤ MOST_BYTES → sources.leaps ≡ concat leap_file → AreReadSources told batch.texts sources.texts → AreReadTexts told batch script sources
-texts_read told batch script_file leap_file script sources first few script_is second few_leaps leaps_are have =
-    let one : script_file ≡ script ∷ [] = lone told batch.script script_file first ∙ ap (λ (it : List ℕ). it ∷ []) (sym script_is) in
+pub texts_read : (files : FilesState) (batch : BatchCommand) (script_file leap_file : List (List ℕ)) (script : List ℕ) (sources : Sources) → MayReadAll files (batch.script ∷ []) script_file → bytes_together script_file ≤ MOST_BYTES → script ≡ concat script_file → MayReadAll files (leap_files batch.leaps) leap_file → bytes_together leap_file ≤ MOST_BYTES → sources.leaps ≡ concat leap_file → AreReadSources files batch.texts sources.texts → AreReadTexts files batch script sources
+texts_read files batch script_file leap_file script sources first few script_is second few_leaps leaps_are have =
+    let one : script_file ≡ script ∷ [] = lone files batch.script script_file first ∙ ap (λ (it : List ℕ). it ∷ []) (sym script_is) in
     record {
       contents = script_file ∷ leap_file ∷ have.contents;
       read = (first, (second, have.read));

@@ -1,5 +1,5 @@
 -- What a batch reads: the files that its words name, and the script's text and the sources that their contents are.
-use Rattle.std.specs.Prelude.{◌≡◌, ℕ, ◌≤◌, List, [], ◌∷◌, map, Option, IsFalse}
+use Rattle.std.specs.Prelude.{◌≡◌, ℕ, ◌≤◌, List, [], ◌∷◌, map, IsFalse}
 use Rattle.std.specs.List.{concat}
 use Rattle.tz_types.specs.declared.limit.TheConstants.{MOST_BYTES}
 use Rattle.tz_types.specs.Source.{bytes_together}
@@ -8,7 +8,8 @@ use Rattle.tz_version.specs.declared.sources.Sources.{Sources}
 use Rattle.tz_words.specs.NamedText.{NamedText, IsSourceOf}
 use Rattle.tz_words.specs.BatchCommand.{BatchCommand}
 use Rattle.tz_words.specs.Command.{leap_files}
-use Rattle.tz_cli.specs.Outcome.{FileContents, MayReadAll}
+use Rattle.tz_io.specs.Files.{FilesState}
+use Rattle.tz_cli.specs.Outcome.{MayReadAll}
 use Rattle.tz_top.specs.Groups.{MayReadGroups, is_too_large}
 
 -- the files of each text
@@ -37,22 +38,22 @@ pub record AreTextsOf (batch : BatchCommand) (contents : List (List (List ℕ)))
   pub sources_are : AreSourcesOf batch.texts texts sources.texts
 
 -- The source may be what was read of the text named.
-pub record IsReadSource (told : Option FileContents) (text : NamedText) (source : Source) : Type 0 where
+pub record IsReadSource (files : FilesState) (text : NamedText) (source : Source) : Type 0 where
   pub contents : List (List ℕ)
-  pub read : MayReadAll told text.files contents
+  pub read : MayReadAll files text.files contents
   pub few_bytes : bytes_together contents ≤ MOST_BYTES
   pub is : IsSourceOf text contents source
 
 -- The sources may be what was read of the texts named.
-pub record AreReadSources (told : Option FileContents) (texts : List NamedText) (sources : List Source) : Type 0 where
+pub record AreReadSources (files : FilesState) (texts : List NamedText) (sources : List Source) : Type 0 where
   pub contents : List (List (List ℕ))
-  pub read : MayReadGroups told (text_groups texts) contents
+  pub read : MayReadGroups files (text_groups texts) contents
   pub few_bytes : IsFalse (is_too_large contents)
   pub are : AreSourcesOf texts contents sources
 
 -- The files of the batch may have contents, none too large, that are the text of its script and its sources.
-pub record AreReadTexts (told : Option FileContents) (batch : BatchCommand) (script : List ℕ) (sources : Sources) : Type 0 where
+pub record AreReadTexts (files : FilesState) (batch : BatchCommand) (script : List ℕ) (sources : Sources) : Type 0 where
   pub contents : List (List (List ℕ))
-  pub read : MayReadGroups told (file_groups batch) contents
+  pub read : MayReadGroups files (file_groups batch) contents
   pub few_bytes : IsFalse (is_too_large contents)
   pub are : AreTextsOf batch contents script sources

@@ -1,11 +1,8 @@
 //! The command `batch`.
-ghost use Rattle.std.specs.Prelude.{◌≡◌, ◌≢◌, ◌⊎◌, ℕ, List};
-ghost use Rattle.tz_io.specs.Counts.{Rose};
-ghost use Rattle.tz_io.specs.Sink.{Appends, AppendsPart};
+ghost use Rattle.std.specs.Prelude.{◌≡◌};
 ghost use Rattle.tz_words.specs.Command.{batch_meant};
-ghost use Rattle.tz_cli.specs.Outcome.{Failed};
+ghost use Rattle.tz_cli.specs.Outcome.{Prints};
 ghost use Rattle.tz_cli.specs.Refusal.{Gives};
-ghost use Rattle.tz_words.specs.declared.status.Status.{Status as DeclaredStatus};
 ghost use Rattle.tz_top.specs.Due.{IsBatchDue};
 
 use crate::outcome::batch_text;
@@ -25,8 +22,8 @@ fn answer<F: Files, G: Gate>(
     files: &mut F,
     gate: &G,
 ) -> Result<Vec<u8>, Refusal>
-    ensures due { Gives (IsBatchDue (batch_meant line.entry) (F.told files.old) (Failed (F.faults files.old) (F.faults files.new))) result }
-    ensures told { F.told files.new ≡ F.told files.old }
+    ensures due { Gives (IsBatchDue (batch_meant line.entry) (F.state files.old) (F.state files.new)) result }
+    ensures kept { (F.state files.new).contents ≡ (F.state files.old).contents }
 {
     match read_texts(alloc, line, files) {
         Ok(texts) => batch_text(rt, alloc, texts, line.slots, gate),
@@ -44,15 +41,9 @@ pub fn run_batch<F: Files, S: Sink, G: Gate>(
     sink: &mut S,
     gate: &G,
 ) -> Status
-    ensures whole { result ≢ Status.Write →
-        (printed : List ℕ) × IsBatchDue (batch_meant line.entry) (F.told files.old) (Failed (F.faults files.old) (F.faults files.new)) result printed
-        × Appends (S.taken sink.old) (S.taken sink.new) printed }
-    ensures part { result ≡ Status.Write →
-        (status : DeclaredStatus) × (printed : List ℕ)
-        × IsBatchDue (batch_meant line.entry) (F.told files.old) (Failed (F.faults files.old) (F.faults files.new)) status printed
-        × AppendsPart (S.taken sink.old) (S.taken sink.new) printed }
-    ensures write { result ≡ Status.Write → Rose (S.faults sink.old) (S.faults sink.new) ⊎ Rose (S.stalls sink.old) (S.stalls sink.new) }
-    ensures told { F.told files.new ≡ F.told files.old }
+    ensures due { Prints (IsBatchDue (batch_meant line.entry) (F.state files.old) (F.state files.new)) result
+        (S.state sink.old) (S.state sink.new) }
+    ensures kept { (F.state files.new).contents ≡ (F.state files.old).contents }
 {
     match answer(rt, alloc, line, files, gate) {
         Ok(text) => print(sink, text.as_slice(), Status::Ok),

@@ -5,7 +5,6 @@ ghost use Rattle.tz_types.specs.declared.limit.TheConstants.{MOST_BYTES};
 ghost use Rattle.tz_words.specs.NamedText.{NamedText, named_text_of};
 ghost use Rattle.tz_words.specs.BatchCommand.{IsTextOf, name_texts, texts_in};
 ghost use Rattle.tz_words.specs.Command.{batch_meant};
-ghost use Rattle.tz_cli.specs.Outcome.{Failed};
 ghost use Rattle.tz_cli.specs.Refusal.{RefusesContents};
 ghost use Rattle.tz_top.specs.BatchTexts.{file_groups, text_groups, IsReadSource, AreReadSources, AreReadTexts};
 ghost use Rattle.tz_top.specs.Refusal.{RefusesGroups};
@@ -39,10 +38,12 @@ fn lone_text(alloc: Global, contents: Items<Text>) -> Text
 /// The source of the text that a word names.
 fn read_source<F: Files>(alloc: Global, word: &str, files: &mut F) -> Result<Source, Refusal>
     requires { IsSome (named_text_of word.now) }
-    ensures source { IfOk result (λ source. (text : NamedText) → IsTextOf word.now text → IsReadSource (F.told files.old) text source) }
-    ensures unharmed { OnOk result ((other : List ℕ) → F.faults files.new other ≡ F.faults files.old other) }
-    ensures refused { IfErr result (λ refusal. (text : NamedText) → IsTextOf word.now text → RefusesContents (F.told files.old) text.files (Failed (F.faults files.old) (F.faults files.new)) refusal) }
-    ensures told { F.told files.new ≡ F.told files.old }
+    ensures source { IfOk result (λ source. (text : NamedText) → IsTextOf word.now text →
+        IsReadSource (F.state files.old) text source) }
+    ensures unharmed { OnOk result (F.state files.new ≡ F.state files.old) }
+    ensures refused { IfErr result (λ refusal. (text : NamedText) → IsTextOf word.now text →
+        RefusesContents (F.state files.old) (F.state files.new) text.files refusal) }
+    ensures kept { (F.state files.new).contents ≡ (F.state files.old).contents }
 {
     let Some(text) = TextWord::new(word) else {
         unreachable!()
@@ -60,9 +61,10 @@ fn read_sources<F: Files>(
     files: &mut F,
 ) -> Result<Items<Source>, Refusal>
     requires { IsTrue (name_texts words.now) }
-    ensures sources { IfOk result (λ sources. AreReadSources (F.told files.old) (texts_in words.now) sources) }
-    ensures refused { IfErr result (λ refusal. RefusesGroups (F.told files.old) (text_groups (texts_in words.now)) (Failed (F.faults files.old) (F.faults files.new)) refusal) }
-    ensures told { F.told files.new ≡ F.told files.old }
+    ensures sources { IfOk result (λ sources. AreReadSources (F.state files.old) (texts_in words.now) sources) }
+    ensures refused { IfErr result (λ refusal.
+        RefusesGroups (F.state files.old) (F.state files.new) (text_groups (texts_in words.now)) refusal) }
+    ensures kept { (F.state files.new).contents ≡ (F.state files.old).contents }
 {
     let mut sources = Items::new(alloc);
     for word in words {
@@ -84,9 +86,10 @@ pub fn read_texts<F: Files>(
     line: BatchLine<'_>,
     files: &mut F,
 ) -> Result<BatchTexts, Refusal>
-    ensures texts { IfOk result (λ texts. AreReadTexts (F.told files.old) (batch_meant line.entry) texts.script texts.sources) }
-    ensures refused { IfErr result (λ refusal. RefusesGroups (F.told files.old) (file_groups (batch_meant line.entry)) (Failed (F.faults files.old) (F.faults files.new)) refusal) }
-    ensures told { F.told files.new ≡ F.told files.old }
+    ensures texts { IfOk result (λ texts. AreReadTexts (F.state files.old) (batch_meant line.entry) texts.script texts.sources) }
+    ensures refused { IfErr result (λ refusal.
+        RefusesGroups (F.state files.old) (F.state files.new) (file_groups (batch_meant line.entry)) refusal) }
+    ensures kept { (F.state files.new).contents ≡ (F.state files.old).contents }
 {
     let script = match read_one(alloc, line.script, files) {
         Ok(contents) => lone_text(alloc, contents),

@@ -1,14 +1,14 @@
 //! The top call: every command, `batch` among them.
-ghost use Rattle.std.specs.Prelude.{◌≡◌, ◌≢◌, ◌⊎◌, ℕ, List};
+ghost use Rattle.std.specs.Prelude.{◌≡◌, ◌⊎◌, ℕ, List};
 ghost use Rattle.std.specs.List.{AllZip, Any};
-ghost use Rattle.tz_io.specs.Counts.{Rose};
-ghost use Rattle.tz_io.specs.Sink.{Appends, AppendsPart};
+ghost use Rattle.tz_io.specs.Files.{FileFailed};
+ghost use Rattle.tz_io.specs.Sink.{with_bytes, SinkFailed};
 ghost use Rattle.tz_batch.specs.OutcomeText.{outcome_text};
 ghost use Rattle.tz_batch.specs.declared.outcome.Outcome.{Outcome};
 ghost use Rattle.tz_cli.specs.Answer.{IsAnswer};
 ghost use Rattle.tz_words.specs.BatchCommand.{BatchCommand, IsBatchCommand};
 ghost use Rattle.tz_words.specs.Command.{Command, IsCommand, IsNoCommand, words_of, files_of};
-ghost use Rattle.tz_cli.specs.Outcome.{Holds, Failed};
+ghost use Rattle.tz_cli.specs.Outcome.{Holds, Prints};
 ghost use Rattle.tz_words.specs.declared.status.Status.{Status as DeclaredStatus};
 ghost use Rattle.tz_top.specs.Groups.{HoldsGroups, AnyFailed};
 ghost use Rattle.tz_top.specs.BatchTexts.{file_groups};
@@ -36,25 +36,18 @@ pub fn run<F: Files, S: Sink, G: Gate>(
     sink: &mut S,
     gate: &G,
 ) -> Status
-    // 0 for `batch`: the sink's bytes are those from before and then the text of an outcome that a run of the script may
-    // give, over the sources of the texts named, by the contents of the files.
+    // 0 for `batch`: the sink has what it had and then the text of an outcome that a run of the script may give, over the
+    // sources of the texts named, by the contents of the files.
     ensures batch { (batch : BatchCommand) → IsBatchCommand (words_of words.now) batch → result ≡ Status.Ok →
-        (outcome : Outcome) × IsOutcomeOf batch (F.told files.old) outcome
-        × Appends (S.taken sink.old) (S.taken sink.new) (outcome_text outcome) }
+        (outcome : Outcome) × IsOutcomeOf batch (F.state files.old) outcome
+        × (S.state sink.new ≡ with_bytes (S.state sink.old) (outcome_text outcome)) }
 
-    // All that was printed is the line that is due at the status, and the status has its reason: 4 in the script, 3 in
-    // the batch's leap text or first text, or in the text of another command, 0, 8, 9, 10, 14 and 15 in the text, 11 in
-    // the size of the files, 5 in a fault of the next file that was counted in this call.
-    ensures whole { result ≢ Status.Write →
-        (line : List ℕ) × IsDueOfAny (words_of words.now) (F.told files.old) (Failed (F.faults files.old) (F.faults files.new)) result line
-        × Appends (S.taken sink.old) (S.taken sink.new) line }
-
-    // 6: a fault of the sink or a stall was counted in this call, and a part of a line that is due was printed.
-    ensures write { result ≡ Status.Write → Rose (S.faults sink.old) (S.faults sink.new) ⊎ Rose (S.stalls sink.old) (S.stalls sink.new) }
-    ensures part { result ≡ Status.Write →
-        (status : DeclaredStatus) × (line : List ℕ)
-        × IsDueOfAny (words_of words.now) (F.told files.old) (Failed (F.faults files.old) (F.faults files.new)) status line
-        × AppendsPart (S.taken sink.old) (S.taken sink.new) line }
+    // At every status but 6, all that was printed is the line that is due at it: 4 has its reason in the script, 3 in the
+    // batch's leap text or first text, or in the text of another command, 0, 8, 9, 10, 14 and 15 in the text, 11 in the
+    // size of the files, 5 in a fault of the next file that was counted in this call. At 6 a part of a line that is due
+    // was printed, and then a fault of the sink or a stall was counted.
+    ensures due { Prints (IsDueOfAny (words_of words.now) (F.state files.old) (F.state files.new)) result
+        (S.state sink.old) (S.state sink.new) }
 
     // 2: exactly where the words match no form, and want of memory never hides it: only the sink may.
     ensures usage { result ≡ Status.Usage → IsNoCommand (words_of words.now) }
@@ -63,28 +56,28 @@ pub fn run<F: Files, S: Sink, G: Gate>(
     // Where no fault and no stall was counted, an answer of `batch` over the contents has its status, but for want of
     // memory.
     ensures exact_batch { (batch : BatchCommand) (contents : List (List (List ℕ))) (status : DeclaredStatus) (line : List ℕ) →
-        IsBatchCommand (words_of words.now) batch → HoldsGroups (F.told files.old) (file_groups batch) contents →
+        IsBatchCommand (words_of words.now) batch → HoldsGroups (F.state files.old) (file_groups batch) contents →
         IsBatchAnswer batch contents status line →
-        ¬ (AnyFailed (Failed (F.faults files.old) (F.faults files.new)) (file_groups batch)) →
-        ¬ (Rose (S.faults sink.old) (S.faults sink.new)) → ¬ (Rose (S.stalls sink.old) (S.stalls sink.new)) →
+        ¬ (AnyFailed (F.state files.old) (F.state files.new) (file_groups batch)) →
+        ¬ (SinkFailed (S.state sink.old) (S.state sink.new)) →
         (result ≡ status) ⊎ (result ≡ Status.Memory) }
     // There a batch whose script is read, and of whose first text a version is made, has the status 0.
     ensures complete { (batch : BatchCommand) (contents : List (List (List ℕ))) →
-        IsBatchCommand (words_of words.now) batch → HoldsGroups (F.told files.old) (file_groups batch) contents →
+        IsBatchCommand (words_of words.now) batch → HoldsGroups (F.state files.old) (file_groups batch) contents →
         IsAcceptedBatch batch contents →
-        ¬ (AnyFailed (Failed (F.faults files.old) (F.faults files.new)) (file_groups batch)) →
-        ¬ (Rose (S.faults sink.old) (S.faults sink.new)) → ¬ (Rose (S.stalls sink.old) (S.stalls sink.new)) →
+        ¬ (AnyFailed (F.state files.old) (F.state files.new) (file_groups batch)) →
+        ¬ (SinkFailed (S.state sink.old) (S.state sink.new)) →
         (result ≡ Status.Ok) ⊎ (result ≡ Status.Memory) }
     // There an answer of any other command has its status, with the same exception.
     ensures exact { (command : Command) (contents : List (List ℕ)) (status : DeclaredStatus) (line : List ℕ) →
-        IsCommand (words_of words.now) command → AllZip (Holds (F.told files.old)) (files_of command) contents →
+        IsCommand (words_of words.now) command → AllZip (Holds (F.state files.old)) (files_of command) contents →
         IsAnswer command contents status line →
-        ¬ (Any (Failed (F.faults files.old) (F.faults files.new)) (files_of command)) →
-        ¬ (Rose (S.faults sink.old) (S.faults sink.new)) → ¬ (Rose (S.stalls sink.old) (S.stalls sink.new)) →
+        ¬ (Any (FileFailed (F.state files.old) (F.state files.new)) (files_of command)) →
+        ¬ (SinkFailed (S.state sink.old) (S.state sink.new)) →
         (result ≡ status) ⊎ (result ≡ Status.Memory) }
 
-    // The files stay as they were.
-    ensures told { F.told files.new ≡ F.told files.old }
+    // The files hold what they held.
+    ensures kept { (F.state files.new).contents ≡ (F.state files.old).contents }
 {
     match run_plain(rt, alloc, words, files, sink) {
         Plain::Done(status) => status,

@@ -1,22 +1,26 @@
-use Rattle.std.proofs.Common.{codes, inl, inr, refl, subst, List, ℕ}
-use Rattle.tz_io.specs.Sink.{AppendsPart}
+use Rattle.std.proofs.Common.{ℕ, List}
 use Rattle.tz_words.specs.Command.{batch_meant}
-use Rattle.tz_cli.specs.Outcome.{Failed}
-use Rattle.tz_cli.specs.Refusal.{refusal_status, refusal_line}
+use Rattle.tz_words.specs.declared.status.Status.{Status}
 use Rattle.tz_words.specs.declared.status.Status.TheVariants as statuses
-use Rattle.tz_top.proofs.Due.{refusal_due}
+use Rattle.tz_cli.specs.Outcome.{Exactly}
+use Rattle.tz_cli.specs.Refusal.{TellsRefusal}
+use Rattle.tz_cli.proofs.Outputs.{prints_as}
+use Rattle.tz_top.specs.Due.{IsBatchDue}
+use Rattle.tz_top.proofs.Due.{refusal_told}
 use Rattle.tz_top.proofs.batch.run_batch.Goals as goal
 
-pub returns-in-Ok-clause-part : goal.returns-in-Ok-clause-part
-returns-in-Ok-clause-part g c = λ is.
-    let part = subst (λ (line : List ℕ). AppendsPart (g.S.Sink.taken c.args.sink.now) (g.S.Sink.taken c.print.new.sink) line) c.as_slice.ensures.value (c.print.ensures.part is) in
-    (statuses.Ok, c.in-Ok.text.items, c.in-Ok.ensures.due, part)
+pub returns-in-Ok-clause-due : goal.returns-in-Ok-clause-due
+returns-in-Ok-clause-due g c =
+    let batch = batch_meant c.args.line in
+    let before = g.F.Files.state c.args.files.now in
+    let after = g.F.Files.state c.answer.new.files in
+    let text = c.in-Ok.text.items in
+    prints_as (Exactly statuses.Ok text) (IsBatchDue batch before after) c.print.result (g.S.Sink.state c.args.sink.now) (g.S.Sink.state c.print.new.sink) (λ (status : Status) (line : List ℕ) exactly. rw (exactly.0, exactly.1) c.in-Ok.ensures.due) (rw c.as_slice.ensures.value at c.print.ensures)
 
-pub returns-in-Err-clause-part : goal.returns-in-Err-clause-part
-returns-in-Err-clause-part g c = λ is.
+pub returns-in-Err-clause-due : goal.returns-in-Err-clause-due
+returns-in-Err-clause-due g c =
+    let batch = batch_meant c.args.line in
+    let before = g.F.Files.state c.args.files.now in
+    let after = g.F.Files.state c.answer.new.files in
     let refusal = c.in-Err.refusal in
-    let due = refusal_due (batch_meant c.args.line) (g.F.Files.told c.args.files.now) (Failed (g.F.Files.faults c.args.files.now) (g.F.Files.faults c.answer.new.files)) refusal c.in-Err.ensures.due in
-    elim (c.print_refusal.ensures.part is) [
-      | inl part ↦ (refusal_status refusal, refusal_line refusal, due, part)
-      | inr part ↦ (statuses.Memory, codes "memory\n", refl, part)
-    ]
+    prints_as (TellsRefusal refusal) (IsBatchDue batch before after) c.print_refusal.result (g.S.Sink.state c.args.sink.now) (g.S.Sink.state c.print_refusal.new.sink) (refusal_told batch before after refusal c.in-Err.ensures.due) c.print_refusal.ensures
