@@ -7,7 +7,7 @@ use Rattle.std.proofs.lemmas.Bool.{cases_eq, cases_lt, lt-ltb, cond-true, cond-f
 use Rattle.pin_core.specs.declared.view.View.{View}
 use Rattle.pin_core.specs.Core.{times, has_number, one_if}
 use Rattle.pin_core.specs.Step.{main_at_first, left_over, taken_in}
-use Rattle.pin_table.specs.Numbers.{IsLeast}
+use Rattle.pin_table.specs.Numbers.{IsLeastNumber}
 use Rattle.pin_core.proofs.Opening.{opens}
 use Rattle.pin_core.proofs.Sums.{total-append}
 
@@ -53,7 +53,7 @@ no_numbers (n ∷ ns) none = absurd (none n (let one : one_if (n == n) ≡ 1 = a
 
 -- the first that is marked is the least number
 pub first_least : (has : List Bool) (numbers : List ℕ) (place : ℕ) → ((n : ℕ) → (0 < times n numbers) ↔ (get_or has n false ≡ true)) → position (λ b. b) has ≡ Some place
-    → (place < length has) × IsLeast numbers place
+    → (place < length has) × IsLeastNumber numbers place
 first_least has numbers place marked found = let t = position-Some (λ b. b) has place false found in (
   t.0,
   record {
