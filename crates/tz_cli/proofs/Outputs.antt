@@ -37,11 +37,6 @@ prints_behind due other statuses.Write before middle after done is those printed
 prints_behind due other status before middle after done is those printed =
     (done ++ printed.0, those status printed.0 printed.1, written_then before middle after done printed.0 is printed.2)
 
--- a line that was printed whole at a status other than `Write`
-pub printed_whole : (due : Status → List ℕ → Type 0) (status : Status) (line : List ℕ) (before after : SinkState) → status ≢ statuses.Write → due status line → after ≡ with_bytes before line → Prints due status before after
-printed_whole due statuses.Write line before after other is whole = absurd (other refl)
-printed_whole due status line before after other is whole = (line, is, whole)
-
 -- what was printed whole or in part failed at `Write` alone
 pub write_failed : (due : Status → List ℕ → Type 0) (before after : SinkState) → Prints due statuses.Write before after → SinkFailed before after
 write_failed due before after printed = stopped_failed before after printed.1 printed.3

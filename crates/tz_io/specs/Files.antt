@@ -1,5 +1,5 @@
 -- What contracts see of files, and what a read leaves of it.
-use Rattle.std.specs.Prelude.{◌≡◌, ℕ, ◌+◌, ◌≤◌, List, Option, Some, IfSome, take}
+use Rattle.std.specs.Prelude.{◌≡◌, ℕ, ◌+◌, ◌≤◌, List, Option, Some, None, IfSome, take}
 use Rattle.tz_io.specs.Counts.{Rose}
 
 -- the content of each file, by its name
@@ -10,6 +10,10 @@ FileContents = List ℕ → Option (List ℕ)
 pub record FilesState : Type 0 where
   pub contents : Option FileContents
   pub faults : List ℕ → ℕ
+
+-- files that don't tell what they hold, and count the faults of all names together
+abbrev pub untold : ℕ → FilesState
+untold faults = record { contents = None; faults = λ name. faults }
 
 -- The bytes are the first limit + 1 of the content of that name, or all of it where it is shorter. Of files that don't
 -- tell what they hold, nothing is said.

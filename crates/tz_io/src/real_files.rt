@@ -1,5 +1,5 @@
 //! The system's files.
-ghost use Rattle.std.specs.Prelude.{◌≡◌, ◌+◌, ◌≤◌, None, IfOk, vec_len};
+ghost use Rattle.std.specs.Prelude.{◌≡◌, ◌+◌, ◌≤◌, IfOk, vec_len};
 
 use crate::{FileError, Files};
 use std::alloc::Global;
@@ -64,11 +64,21 @@ fn read_front<R: rt::Files>(
 }
 
 impl<R: rt::Files> Files for RealFiles<'_, R> {
-    ghost use Rattle.std.specs.Prelude.{◌≡◌, ◌+◌, ◌-◌, ◌^◌, OnErr, min};
+    ghost use Rattle.std.specs.Prelude.{◌≡◌, ◌+◌, ◌-◌, ◌^◌, IfOk, OnOk, OnErr, IsErrOf, min};
+    ghost use Rattle.tz_io.specs.Files.{IsFront, FileFailed, KeepsFiles, untold};
 
-    ghost state = { λ files. record { contents = None; faults = λ _. files.faults } };
+    ghost state = { λ files. untold files.faults };
 
-    fn read(&mut self, alloc: Global, name: &str, limit: usize) -> Result<Vec<u8>, FileError> {
+    fn read(&mut self, alloc: Global, name: &str, limit: usize) -> Result<Vec<u8>, FileError>
+        // What the trait promises.
+        ensures bytes { IfOk result (λ bytes. IsFront (untold self.old.faults) name.now limit bytes.items) }
+        ensures unharmed { OnOk result (untold self.new.faults ≡ untold self.old.faults) }
+        ensures kept { KeepsFiles (untold self.old.faults) (untold self.new.faults) }
+        ensures failed { IsErrOf result FileError.Failed → FileFailed (untold self.old.faults) (untold self.new.faults) name.now }
+
+        // Each error is counted, also where memory ran out.
+        ensures counted { OnErr result (self.new.faults ≡ min (self.old.faults + 1) (2 ^ 64 - 1)) }
+    {
         let answer = read_front(self.rt, alloc, name, limit);
         if answer.is_err() {
             self.faults = self.faults.saturating_add(1);
