@@ -76,21 +76,6 @@ after_inserted low name (other ∷ names) place below up e =
           ]
     ]
 
-pub ascends_inserted : (name : List ℕ) (names : List (List ℕ)) (place : ℕ) → ascends name_before names ≡ true → name_place name names ≡ Err place → ascends name_before (insert names place name) ≡ true
-ascends_inserted name [] place up e = (let none : place ≡ 0 = cc (place_empty name) in rw none refl)
-ascends_inserted name (other ∷ names) place up e =
-    elim (stands name other names) [
-      | same_name same is ↦ cc
-      | later_name differs before is ↦
-          (let none : place ≡ 0 = cc in
-          rw none (and_from (name_before name other) (ascends_after name_before other names) before up))
-      | earlier_name differs before is ↦
-          elim (err_later (name_place name names) place (sym is ∙ e)) [
-            | later_gap early step there ↦
-                rw step (after_inserted other name names early (before_other other name differs before) up there)
-          ]
-    ]
-
 module _ {X : Type 0} (name_of : X → List ℕ) (name : List ℕ) where
   abbrev pub is_named : X → Bool
   is_named x = is_exactly (name_of x) name

@@ -13,9 +13,6 @@ none_of second (part ∷ parts) more = refl
 pub second_none : (mark : ℕ) (second behind : List ℕ) → last_second_of (second ∷ parts_at mark behind) ≡ None
 second_none mark second behind = none_of second (parts_at mark behind) (parts_are mark behind)
 
-no_minutes : (hour minute : Option ℕ) → None ≡ (None >>= λ (later : ℕ). hour >>= λ h. Some (3_600 * h + later))
-no_minutes hour minute = refl
-
 whole : (hour minute second : Option ℕ) → (hour >>= λ h. minute >>= λ m. second >>= λ s. Some (3_600 * h + 60 * m + s)) ≡ ((second >>= λ s. minute >>= λ m. Some (60 * m + s)) >>= λ later. hour >>= λ h. Some (3_600 * h + later))
 whole None None None = refl
 whole None None (Some s) = refl

@@ -20,10 +20,6 @@ suffix_at letters (byte ∷ next ∷ bytes) (suc n) long =
 pub suffix_last : (letters word : List ℕ) → 0 < length word → suffix_split letters word ≡ (if list_any (λ letter. lower (get_or word (length word - 1) 0) == letter) letters then (take (length word - 1) word, lower (get_or word (length word - 1) 0)) else (word, 0))
 suffix_last letters word some = suffix_at letters word (length word - 1) (omega arith)
 
-pub suffix_none : (letters word : List ℕ) → length word ≡ 0 → suffix_split letters word ≡ (word, 0)
-suffix_none letters [] none = refl
-suffix_none letters (byte ∷ bytes) none = absurd (omega arith)
-
 pub suffix_taken : (letters word : List ℕ) (letter : ℕ) → 0 < length word → letter ≡ lower (get_or word (length word - 1) 0) → list_any (λ other. letter == other) letters ≡ true → suffix_split letters word ≡ (take (length word - 1) word, letter)
 suffix_taken letters word letter some is one =
     let test : list_any (λ other. lower (get_or word (length word - 1) 0) == other) letters ≡ true = rw is at one in

@@ -114,8 +114,7 @@ impl Cause {
                 "no keyword: Rule, Zone or Link in a zone text, Leap or Expires in a leap text",
             Cause::FieldCount =>
                 "wrong number of fields: 10 in a Rule line, 5 to 9 in a Zone line, 3 to 7 in a line that continues it, 3 in a Link line, 7 in a Leap line, 5 in an Expires line",
-            Cause::Year =>
-                "bad year: a number in range, in a Rule line also minimum or maximum as FROM, and maximum or only as TO",
+            Cause::Year => "bad year: digits and in range, or in a Rule line maximum or only as TO",
             Cause::YearOrder => "years in wrong order: TO is not below FROM",
             Cause::Reserved => "bad fifth field of a Rule line: it is -",
             Cause::Month => "bad month: a name, as Jan or January",
