@@ -14,3 +14,4 @@ pub mod ClaimMoves
 pub mod StoreMoves
 pub mod RunLemmas
 pub mod PlayLemmas
+pub mod PlaceLemmas

@@ -14,5 +14,7 @@ pub mod Opening
 pub mod Main
 pub mod Parting
 pub mod Closing
+pub mod Handles
+pub mod Turns
 pub mod Reader
 pub mod Numbers

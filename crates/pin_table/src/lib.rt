@@ -23,16 +23,19 @@
 //! ```
 #![tactic(auto)]
 
+mod answers;
 mod cell;
 mod closing;
 mod copies;
 mod exchange;
+mod hand;
 mod layout;
 mod main_seat;
 mod no_reader;
 mod opening;
 mod packing;
 mod parting;
+mod pinned;
 mod plays;
 mod position;
 mod reader;
@@ -44,14 +47,19 @@ mod table;
 #[cfg(test)]
 mod tests;
 
+pub use answers::{
+    Busy, EraseWhy, Erased, Listing, MOST_ROWS, PushRefused, PushWhy, Pushed, Released, TooManyHandles,
+};
 pub use cell::Cell;
 pub use copies::Copies;
 pub use exchange::{Carried, MOST_CARRIED};
+pub use hand::Hand;
 pub use layout::{FIRST_SLOT_WORD, FRONT_WORD, TURN_WORD, WORD_STRIDE};
 pub use main_seat::Main;
 pub use no_reader::NoReader;
+pub use pinned::Pinned;
 pub use position::Position;
-pub use reader::{MOST_PINS, Reader};
+pub use reader::{MOST_HANDLES, Reader};
 pub use rule::{Base, Board, Chair, ListRule};
 pub use shelf::{SHELF_COPIES, Shelf};
 pub use sitting::{Key, Plan, Sitting};

@@ -6,6 +6,7 @@ ghost use Rattle.pin_core.specs.declared.view.Role.TheVariants as roles;
 ghost use Rattle.pin_table.specs.Position.{IsAfter, slots_of_plan};
 
 use crate::exchange::Carried;
+use crate::hand::Hand;
 use crate::no_reader::NoReader;
 use crate::parting::{meet, no_overflow, part};
 use crate::position::Position;
@@ -82,8 +83,10 @@ impl<P: Payload> Main<P> {
         self.allowance -= writes;
         Ok(Reader {
             table,
-            seat,
-            carried: Carried::new(),
+            hand: Hand {
+                seat,
+                carried: Carried::new(),
+            },
             number,
             allowance: writes,
             seen: self.seen,
@@ -101,8 +104,7 @@ impl<P: Payload> Main<P> {
     {
         let Reader {
             table,
-            seat,
-            carried: _,
+            hand: Hand { seat, carried: _ },
             number,
             allowance,
             seen,

@@ -1,47 +1,44 @@
 //! A reader: what a thread works on the list with.
-ghost use Rattle.std.specs.Prelude.{◌≡◌, ◌<◌, false, None, length};
+ghost use Rattle.std.specs.Prelude.{◌≡◌, ◌<◌, false, None, Contains};
+ghost use Rattle.pin_core.specs.declared.entry.Entry.{Entry};
 ghost use Rattle.pin_book.specs.declared.limits.TheConstants.{READER_NUMBERS};
-ghost use Rattle.pin_core.specs.Core.{IsReader, stray_count};
-ghost use Rattle.pin_table.specs.Carried.{slots_of};
+ghost use Rattle.pin_core.specs.Core.{IsReader};
+ghost use Rattle.pin_table.specs.Handles.{HoldsFront};
 ghost use Rattle.pin_table.specs.Position.{IsAfter};
 ghost use Rattle.pin_table.specs.Table.{IsAt};
 
-use crate::exchange::Carried;
+use crate::hand::Hand;
 use crate::packing::unpack_front;
 use crate::position::Position;
-use crate::rule::Chair;
+use crate::shelf::SHELF_COPIES;
 use crate::steps::load_front;
 use crate::table::PinTable;
 use arrayvec::ArrayVec;
 use pin_book::Payload;
 use pin_core::Entry;
 
-/// The most pins that a reader has: eight handles, and a stray that it takes off at once.
-pub const MOST_PINS: usize = 9;
+/// The most handles that a reader has.
+pub const MOST_HANDLES: usize = SHELF_COPIES;
 
 /// What a thread works on the list with. It has a reader number of its table for as long as it is out.
 #[derive(Drop)]
 pub struct Reader<'t, P: Payload> {
     pub(crate) table: &'t PinTable<P>,
-    pub(crate) seat: Chair<P>,
-    // Which slots of the base the seat carries.
-    pub(crate) carried: Carried,
+    pub(crate) hand: Hand<P>,
     pub(crate) number: u32,
     pub(crate) allowance: u32,
     // The front that the reader has seen last.
     pub(crate) seen: Position,
-    // The pins, in the order in which they were added.
-    pub(crate) entries: ArrayVec<Entry, MOST_PINS>,
-    pub ghost at: { IsAt table.now seat },
+    // The pins of its handles, in the order in which they were added.
+    pub(crate) entries: ArrayVec<Entry, MOST_HANDLES>,
+    pub ghost at: { IsAt table.now hand.seat },
     pub ghost small: { number < READER_NUMBERS },
-    pub ghost reader: { IsReader number seat.me.0.core },
-    pub ghost idle: { (seat.me.0.core.turn ≡ false) × (seat.me.0.core.claimed ≡ None) },
-    pub ghost settled: { stray_count seat.me.0.core ≡ 0 },
-    ghost allowed: { allowance ≡ seat.me.0.core.allowance },
-    ghost position: { IsAfter table.now.slots seat.me.0.core.seen seen },
-    ghost pins: { entries.items ≡ seat.me.0.core.entries },
-    ghost carries: { carried ≡ slots_of seat.me.1 },
-    pub ghost carries_none: { length seat.me.0.core.entries ≡ 0 → length seat.me.1 ≡ 0 },
+    pub ghost reader: { IsReader number hand.seat.me.0.core },
+    pub ghost idle: { (hand.seat.me.0.core.turn ≡ false) × (hand.seat.me.0.core.claimed ≡ None) },
+    pub ghost handles: { (e : Entry) → Contains hand.seat.me.0.core.entries e → HoldsFront table.now.slots hand.seat.me.0.core.seen e },
+    ghost allowed: { allowance ≡ hand.seat.me.0.core.allowance },
+    ghost position: { IsAfter table.now.slots hand.seat.me.0.core.seen seen },
+    ghost pins: { entries.items ≡ hand.seat.me.0.core.entries },
 }
 
 impl<'t, P: Payload> Reader<'t, P> {
@@ -51,7 +48,7 @@ impl<'t, P: Payload> Reader<'t, P> {
     pub fn look(&mut self) -> Position
         ensures { Looks self.old self.new result }
     {
-        let found = load_front(self.table, &mut self.seat, self.number);
+        let found = load_front(self.table, &mut self.hand.seat, self.number);
         self.seen = unpack_front(found);
         self.seen
     }

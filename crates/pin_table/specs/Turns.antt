@@ -1,0 +1,171 @@
+-- What a call that takes the turn answers, and what its reader then knows. All but a try that finds the turn taken go by
+-- the journal that the turn finds.
+use Rattle.std.specs.Prelude.{◌≡◌, ◌≢◌, ℕ, ◌+◌, ◌<◌, Bool, true, false, not, ◌==◌, if◌then◌else◌, Option, Some, List, length, take, filter, Contains, Result, Ok, Err}
+use Rattle.std.specs.List.{range_with_len}
+use Rattle.pin_book.specs.declared.write.Write.{Write}
+use Rattle.pin_book.specs.declared.write.Change.{Change}
+use Rattle.pin_book.specs.declared.write.Change.TheVariants.{Push, Erase}
+use Rattle.pin_book.specs.Replay.{Edition, state_after, replays, front_number, is_taken, is_listed, greatest_below}
+use Rattle.pin_book.specs.Book.{rows_of}
+use Rattle.pin_core.specs.declared.view.View.{View}
+use Rattle.pin_core.specs.Core.{held_at}
+use Rattle.pin_core.specs.Lawful.{WasFrontOnce}
+use Rattle.pin_core.specs.Step.{was_refused, got_turn, gave_turn, stored}
+use Rattle.pin_table.specs.declared.answers.Listing.{Listing}
+use Rattle.pin_table.specs.declared.answers.Erased.{Erased}
+use Rattle.pin_table.specs.declared.answers.EraseWhy.{EraseWhy}
+use Rattle.pin_table.specs.declared.answers.EraseWhy.TheVariants as erase
+use Rattle.pin_table.specs.declared.answers.Pushed.{Pushed}
+use Rattle.pin_table.specs.declared.answers.PushWhy.{PushWhy}
+use Rattle.pin_table.specs.declared.answers.PushWhy.TheVariants as push
+use Rattle.pin_table.specs.declared.sitting.Plan.{Plan}
+use Rattle.pin_table.specs.Sources.{source_of, book_of}
+
+-- the journal that a turn finds goes on from what the reader had seen
+pub record FindsJournal (slots : ℕ) (v : View) (journal : List Write) : Type 0 where
+  pub grows : take (length v.seen) journal ≡ v.seen
+  pub replay : replays slots journal ≡ true
+
+module _ {P : Type 0} where
+  -- The try found that another reader has the turn. In a table of one reader it never does.
+  pub record MeetsTurn (plan : Plan P) (number : ℕ) (v v' : View) (holder : ℕ) : Type 0 where
+    pub view : v' ≡ was_refused (Some holder) v
+    pub other : holder ≢ number
+    pub inside : holder < plan.readers
+    pub several : 1 < plan.readers
+
+-- the reader met the turn so often, and the holder whom it met last
+pub record WaitsForTurn (v v' : View) : Type 0 where
+  pub often : ℕ
+  pub holder : Option ℕ
+  pub view : v' ≡ record v { refused = v.refused + often; holder = holder }
+
+-- ---- lists ----
+
+module _ {P H : Type 0} (home : P → H) (name_of : H → ℕ → List ℕ) where
+  -- the listing is the list after the journal that the turn found, newest first
+  pub record Lists (plan : Plan P) (v v' : View) (listing : Listing) : Type 0 where
+    pub journal : List Write
+    pub found : FindsJournal plan.slots v journal
+    pub view : v' ≡ gave_turn (got_turn journal v)
+    pub w : listing.w ≡ length journal
+    pub rows : listing.rows.items ≡ rows_of (book_of name_of (home plan.first) plan.slots plan.room journal)
+
+-- ---- erases ----
+
+-- the versions that are listed after these writes
+abbrev pub listed_after : ℕ → List Write → List Edition
+listed_after slots journal = (state_after slots journal).listed
+
+-- What an erase after this number comes to by this journal, for a reader that may still make so many writes. The first
+-- reason that holds is told.
+abbrev pub erase_answer : ℕ → List Write → ℕ → ℕ → Result Erased EraseWhy
+erase_answer slots journal allowance number =
+    let listed = listed_after slots journal in let w = length journal in
+    if not (is_listed number listed) then Err (erase.NotListed w)
+    else (if greatest_below number listed == 0 then Err (erase.Nothing w)
+    else (if allowance == 0 then Err (erase.JournalFull w)
+    else Ok record { w = w + 1; gone = greatest_below number listed }))
+
+-- what the reader knows after an erase with this answer, once it has given the turn back
+abbrev pub view_after_erase : ℕ → ℕ → List Write → View → Result Erased EraseWhy → View
+view_after_erase by number journal v (Ok erased) =
+    gave_turn (stored record { by = by; seq = length v.own + 1; change = Erase number erased.gone } (got_turn journal v))
+view_after_erase by number journal v (Err why) = gave_turn (got_turn journal v)
+
+-- the erase of the version behind that of this number, by the journal that the turn found
+pub record Erases (slots by number : ℕ) (v v' : View) (answer : Result Erased EraseWhy) : Type 0 where
+  pub journal : List Write
+  pub found : FindsJournal slots v journal
+  pub is : answer ≡ erase_answer slots journal v.allowance number
+  pub view : v' ≡ view_after_erase by number journal v answer
+
+-- the same, or another reader has the turn
+abbrev pub TriesErase : {P : Type 0} → Plan P → ℕ → ℕ → View → View → Result Erased EraseWhy → Type 0
+TriesErase plan by number v v' (Err (erase.Busy holder)) = MeetsTurn plan by v v' holder
+TriesErase plan by number v v' (Err (erase.NotListed w)) = Erases plan.slots by number v v' (Err (erase.NotListed w))
+TriesErase plan by number v v' (Err (erase.Nothing w)) = Erases plan.slots by number v v' (Err (erase.Nothing w))
+TriesErase plan by number v v' (Err (erase.JournalFull w)) = Erases plan.slots by number v v' (Err (erase.JournalFull w))
+TriesErase plan by number v v' (Ok erased) = Erases plan.slots by number v v' (Ok erased)
+
+-- ---- pushes ----
+
+-- the slots below this one in which nothing listed is, rising
+abbrev pub unlisted_below : ℕ → List Write → ℕ → List ℕ
+unlisted_below slots journal slot = filter (λ other. not (is_taken slots journal other)) (range_with_len 0 slot)
+
+-- the reader has the turn, and its claims have found these slots pinned
+abbrev pub finding : List Write → List ℕ → View → View
+finding journal pinned v = record (got_turn journal v) { pinned = pinned }
+
+-- The claims of all unlisted slots below this one found them pinned. Each was the front's slot once, not before the floor.
+-- In a table of one reader it has a handle at each.
+pub record FoundPinned (slots readers : ℕ) (v : View) (journal : List Write) (slot : ℕ) : Type 0 where
+  pub fronts : (other : ℕ) → Contains (unlisted_below slots journal slot) other → WasFrontOnce slots journal v.floor (length journal) other
+  pub alone : readers ≡ 1 → (other : ℕ) → Contains (unlisted_below slots journal slot) other → 0 < held_at other v
+
+module _ {P H : Type 0} (home : P → H) (source : P → ℕ) (name_of : H → ℕ → List ℕ) where
+  -- what a version of the table is called
+  abbrev pub version_name : P → List ℕ
+  version_name version = name_of (home version) (source version)
+
+  -- the name of the front after these writes
+  abbrev pub front_name : Plan P → List Write → List ℕ
+  front_name plan journal = name_of (home plan.first) (source_of journal (front_number plan.slots journal))
+
+  -- the front has the version's name
+  pub record PushesSame (plan : Plan P) (v v' : View) (version : P) (w n : ℕ) : Type 0 where
+    pub journal : List Write
+    pub found : FindsJournal plan.slots v journal
+    pub same : version_name version ≡ front_name plan journal
+    pub is_w : w ≡ length journal
+    pub is_n : n ≡ front_number plan.slots journal
+    pub view : v' ≡ gave_turn (got_turn journal v)
+
+  -- it hasn't, and the reader may make no write
+  pub record PushesTooMany (plan : Plan P) (v v' : View) (version : P) (w : ℕ) : Type 0 where
+    pub journal : List Write
+    pub found : FindsJournal plan.slots v journal
+    pub other : version_name version ≢ front_name plan journal
+    pub none : v.allowance ≡ 0
+    pub is_w : w ≡ length journal
+    pub view : v' ≡ gave_turn (got_turn journal v)
+
+  -- it may, and each slot is listed or was found pinned
+  pub record PushesIntoFull (plan : Plan P) (v v' : View) (version : P) (w : ℕ) : Type 0 where
+    pub journal : List Write
+    pub found : FindsJournal plan.slots v journal
+    pub other : version_name version ≢ front_name plan journal
+    pub some : 0 < v.allowance
+    pub pinned : FoundPinned plan.slots plan.readers v journal plan.slots
+    pub is_w : w ≡ length journal
+    pub view : v' ≡ gave_turn (finding journal (unlisted_below plan.slots journal plan.slots) v)
+
+  -- the version went into the least unlisted slot that wasn't found pinned, in which the reader has no handle
+  pub record PushesVersion (plan : Plan P) (by : ℕ) (v v' : View) (version : P) (pushed : Pushed) : Type 0 where
+    pub journal : List Write
+    pub found : FindsJournal plan.slots v journal
+    pub other : version_name version ≢ front_name plan journal
+    pub some : 0 < v.allowance
+    pub pinned : FoundPinned plan.slots plan.readers v journal pushed.slot
+    pub inside : pushed.slot < plan.slots
+    pub unlisted : is_taken plan.slots journal pushed.slot ≡ false
+    pub free : held_at pushed.slot v ≡ 0
+    pub is_w : pushed.w ≡ length journal + 1
+    pub is_n : pushed.n ≡ front_number plan.slots journal + 1
+    pub view : v' ≡ gave_turn (stored record { by = by; seq = length v.own + 1; change = Push pushed.n (source version) pushed.slot }
+        (record (finding journal (unlisted_below plan.slots journal pushed.slot) v) { claimed = Some pushed.slot }))
+
+  -- why a push is refused, but for another reader's turn
+  abbrev pub RefusesPush : Plan P → View → View → P → PushWhy → Type 0
+  RefusesPush plan v v' version (push.Busy holder) = ⊥
+  RefusesPush plan v v' version (push.Same w n) = PushesSame plan v v' version w n
+  RefusesPush plan v v' version (push.JournalFull w) = PushesTooMany plan v v' version w
+  RefusesPush plan v v' version (push.Full w) = PushesIntoFull plan v v' version w
+
+  -- the same, or another reader has the turn
+  abbrev pub TriesPush : Plan P → ℕ → View → View → P → PushWhy → Type 0
+  TriesPush plan by v v' version (push.Busy holder) = MeetsTurn plan by v v' holder
+  TriesPush plan by v v' version (push.Same w n) = RefusesPush plan v v' version (push.Same w n)
+  TriesPush plan by v v' version (push.JournalFull w) = RefusesPush plan v v' version (push.JournalFull w)
+  TriesPush plan by v v' version (push.Full w) = RefusesPush plan v v' version (push.Full w)
