@@ -2,7 +2,7 @@
 use Rattle.std.specs.Prelude.{◌≡◌, ℕ, ◌+◌, ◌-◌, ◌/◌, ◌<◌, ◌≤◌, Bool, true, false, nat_lt, List, [], length, take, All, Contains}
 use Rattle.pin_book.specs.declared.limits.TheConstants.{READER_NUMBERS}
 use Rattle.pin_book.specs.declared.write.Write.{Write}
-use Rattle.pin_book.specs.Replay.{front_slot, front_number, kept_number}
+use Rattle.pin_book.specs.Replay.{front_slot, kept_number}
 use Rattle.pin_core.specs.declared.entry.Entry.{Entry}
 use Rattle.pin_core.specs.declared.view.View.{View}
 use Rattle.pin_core.specs.Core.{IsReader, held_at, one_if, times, total}
