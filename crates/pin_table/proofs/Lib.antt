@@ -14,4 +14,5 @@ pub mod ClaimMoves
 pub mod StoreMoves
 pub mod RunLemmas
 pub mod PlayLemmas
+pub mod ExchangeLemmas
 pub mod PlaceLemmas

@@ -40,7 +40,7 @@ use Rattle.pin_table.proofs.SourceLemmas.{source_kept, front_some, front_rises}
 use Rattle.pin_table.proofs.StepLemmas.{slot_written, Known, known, after_step, set_at, Steps, seen_part, seen_replays, reader_inside, plan_here, same_plan, for_step}
 
 -- where a reader has a handle at the slot, it has an entry that says so
-held_entry : (slot : ℕ) (entries : List Entry) → 0 < total (λ (e : Entry). one_if ((e.slot == slot) && e.held)) entries → (e : Entry) × Contains entries e × (e.slot ≡ slot) × (e.held ≡ true)
+pub held_entry : (slot : ℕ) (entries : List Entry) → 0 < total (λ (e : Entry). one_if ((e.slot == slot) && e.held)) entries → (e : Entry) × Contains entries e × (e.slot ≡ slot) × (e.held ≡ true)
 held_entry slot [] more = absurd (omega arith)
 held_entry slot (e ∷ es) more = ⊎_elim
     (λ (yes : ((e.slot == slot) && e.held) ≡ true). let both = and_parts (e.slot == slot) e.held yes in (e, (0, (omega arith), refl), eqb-true e.slot slot both.0, both.1))
