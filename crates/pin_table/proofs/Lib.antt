@@ -16,3 +16,4 @@ pub mod RunLemmas
 pub mod PlayLemmas
 pub mod ExchangeLemmas
 pub mod PlaceLemmas
+pub mod HandleMoves

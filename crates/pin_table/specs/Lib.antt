@@ -17,4 +17,5 @@ pub mod Closing
 pub mod Handles
 pub mod Turns
 pub mod Reader
+pub mod Pins
 pub mod Numbers
