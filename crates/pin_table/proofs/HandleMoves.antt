@@ -3,7 +3,7 @@ use Rattle.std.proofs.Common.{◌≡◌, ◌≢◌, ◌⊎◌, ℕ, zero, suc, �
 use Rattle.std.specs.Prelude.{nat_lt, slice_get}
 use Rattle.std.specs.List.{Contains, All, remove}
 use Rattle.std.proofs.lemmas.Bool.{cases_eq, cases_Bool, lt-ltb}
-use Rattle.std.proofs.lemmas.List.{take_all, length-take-le}
+use Rattle.std.proofs.lemmas.List.{take_all, length-take-le, length-append}
 use Rattle.std.proofs.lemmas.List.Elements.{All-nil, All-cons, All-head, All-tail, Contains-push_cases}
 use Rattle.pin_book.specs.declared.write.Write.{Write}
 use Rattle.pin_book.specs.Replay.{front_number, front_slot, kept_number, replays}
@@ -238,9 +238,5 @@ module _ {P H : Type 0} (home : P → H) (source : P → ℕ) where
                   (λ tail. apart x (g.others x tail.0 tail.1) tail.1)
                   (now_carried (place e.slot number) (Place (version ∷ t.others)) (Place t.others) c1 c2 t.is carried_once x among);
               out = (let sum = other_sum (place e.slot number) (Place (version ∷ t.others)) (Place t.others) c1 c2 t.is copies_out in let all = g.out in let many = stock.many in
-                  let long = ap (λ (l : List Entry). length l) entries_are ∙ length_push v.entries e in omega arith);
+                  let long = ap (λ (l : List Entry). length l) entries_are ∙ length-append v.entries (e ∷ []) in omega arith);
             }
-              where
-                length_push : (es : List Entry) (x : Entry) → length (es ++ x ∷ []) ≡ length es + 1
-                length_push [] x = refl
-                length_push (y ∷ es) x = ap suc (length_push es x)

@@ -17,3 +17,4 @@ pub mod PlayLemmas
 pub mod ExchangeLemmas
 pub mod PlaceLemmas
 pub mod HandleMoves
+pub mod HandPins
