@@ -86,7 +86,7 @@ held_more slot entries e held =
     and_true true = refl
     and_true false = refl
 
-some_more : (n : ℕ) → 0 < n → one_if (nat_lt 0 n) ≡ 1
+pub some_more : (n : ℕ) → 0 < n → one_if (nat_lt 0 n) ≡ 1
 some_more n some = ap one_if (lt-ltb 0 n some)
 
 module _ {P H : Type 0} (home : P → H) (source : P → ℕ) where

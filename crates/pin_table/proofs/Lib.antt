@@ -18,3 +18,4 @@ pub mod ExchangeLemmas
 pub mod PlaceLemmas
 pub mod HandleMoves
 pub mod HandPins
+pub mod HandReleases
