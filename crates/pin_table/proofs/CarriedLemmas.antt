@@ -18,13 +18,17 @@ found_before slot (x ∷ xs) once = ⊎_elim
     (λ (other : (x == slot) ≡ false). let none = ap one_if other in let more = found_before slot xs (omega arith) in rw other (omega arith))
     (cases_Bool (x == slot))
 
--- a number that stands in the list is found
-pub none_missing : (slot : ℕ) (slots : List ℕ) → 1 ≤ times slot slots → position (λ other. other == slot) slots ≡ None → ⊥
-none_missing slot slots once missing = some_is (position_or_len (λ other. other == slot) slots) (nat_lt (position_or_len (λ other. other == slot) slots) (length slots)) (lt-ltb _ _ (found_before slot slots once)) missing
+-- what is found before the end is found
+pub not_none : {X : Type 0} (p : X → Bool) (xs : List X) → position_or_len p xs < length xs → position p xs ≡ None → ⊥
+not_none p xs inside missing = some_is (position_or_len p xs) (nat_lt (position_or_len p xs) (length xs)) (lt-ltb _ _ inside) missing
   where
     some_is : (n : ℕ) (b : Bool) → b ≡ true → cond b (Some n) None ≡ None → ⊥
     some_is n true t e = absurd (cc)
     some_is n false t e = absurd (cc)
+
+-- a number that stands in the list is found
+pub none_missing : (slot : ℕ) (slots : List ℕ) → 1 ≤ times slot slots → position (λ other. other == slot) slots ≡ None → ⊥
+none_missing slot slots once missing = not_none (λ other. other == slot) slots (found_before slot slots once) missing
 
 module _ {S : Type 0} where
   -- the head turned behind the others

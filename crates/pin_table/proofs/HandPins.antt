@@ -56,8 +56,8 @@ pub last_removed : (es : List Entry) (e : Entry) → remove (es ++ e ∷ []) (le
 last_removed [] e = refl
 last_removed (x ∷ es) e = ap (λ (l : List Entry). x ∷ l) (last_removed es e)
 
-pub same_entry : (e : Entry) (slot position : ℕ) → slot ≡ e.slot → position ≡ e.position → e.held ≡ false → e ≡ record { slot = slot; position = position; held = false }
-same_entry e slot position at when no_hold = λ i. record { slot = sym at i; position = sym when i; held = no_hold i }
+pub same_entry : (e : Entry) (slot position : ℕ) (held : Bool) → slot ≡ e.slot → position ≡ e.position → e.held ≡ held → e ≡ record { slot = slot; position = position; held = held }
+same_entry e slot position held at when hold = λ i. record { slot = sym at i; position = sym when i; held = hold i }
 
 -- what a step tells of a reader with one pin more holds without that pin
 pub goes_on_without : (slots room number shown : ℕ) (v : View) (journal : List Write) → GoesOn slots room number (pinned slots shown v) journal → GoesOn slots room number v journal

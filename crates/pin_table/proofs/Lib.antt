@@ -19,3 +19,4 @@ pub mod PlaceLemmas
 pub mod HandleMoves
 pub mod HandPins
 pub mod HandReleases
+pub mod FrontLemmas

@@ -1,5 +1,5 @@
 //! Pins: how a reader gets handles on the front and releases them. No call here waits for another thread.
-ghost use Rattle.std.specs.Prelude.{◌≡◌, ◌<◌, ◌==◌, ◌↔◌, true, None, Some, Contains, length, slice_get, IfOk, IfSome, IsErr, OnErr};
+ghost use Rattle.std.specs.Prelude.{◌≡◌, ◌<◌, ◌==◌, ◌↔◌, true, None, Some, ◌&&◌, position, length, IfOk, IfSome, IsErr, OnErr};
 ghost use Rattle.std.specs.List.{list_any};
 ghost use Rattle.pin_core.specs.declared.entry.Entry.{Entry};
 ghost use Rattle.std.specs.Arc.{arc_value};
@@ -28,15 +28,13 @@ fn is_pinned(entries: &[Entry], slot: u32) -> bool
     entries.iter().any(|entry| entry.slot == slot)
 }
 
-/// The place of this pin among these, which it is one of.
-fn place_among(entries: &[Entry], entry: Entry) -> usize
-    requires { Contains entries.now entry }
-    ensures { slice_get entries.now result ≡ Some entry }
+/// The place among these pins of the first that was added at this slot and position.
+fn place_among(entries: &[Entry], slot: u32, w: u32) -> Option<usize>
+    ensures { result ≡ position (λ (e : Entry). (e.slot == slot) && (e.position == w)) entries.now }
 {
-    let Some(place) = entries.iter().position(|other| *other == entry) else {
-        unreachable!()
-    };
-    place
+    entries
+        .iter()
+        .position(|entry| entry.slot == slot && entry.position == w)
 }
 
 impl<'t, P: Payload> Reader<'t, P> {
@@ -110,7 +108,9 @@ impl<'t, P: Payload> Reader<'t, P> {
             position,
             held: true,
         };
-        let place = place_among(self.entries.as_slice(), entry);
+        let Some(place) = place_among(self.entries.as_slice(), slot, position) else {
+            unreachable!()
+        };
         self.entries.remove(place);
         let last = !is_pinned(self.entries.as_slice(), slot);
         let found = self.hand.unpin(self.table, self.number, place, entry, version, last);

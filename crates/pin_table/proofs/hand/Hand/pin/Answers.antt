@@ -1,5 +1,6 @@
 use Rattle.std.proofs.Common.{◌≡◌, ◌≢◌, ◌<◌, ◌/◌, ◌^◌, ◌∷◌, [], List, ◌∙◌, length, sym, ap, subst, arith, true, false, not, ◌==◌, refl, Bool, Some, ne_eqb}
 use Rattle.std.proofs.lemmas.List.{length-map}
+use Rattle.std.proofs.lemmas.Bool.{not-true, not-false}
 use Rattle.std.specs.Arc.{arc_value}
 use Rattle.std.specs.List.{list_any, remove}
 use Rattle.pin_book.proofs.Journals.{front_slot_inside}
@@ -31,7 +32,7 @@ take_pin-requires-clause-may g c κs within =
     let other : shown ≢ front_number how.slots v.seen = λ is. c.if-found-seen.true (is ∙ sym c.requires.front.n) in
     let core = ap (λ m. m.0.core) c.load_front-word.ensures.loaded.seat ∙ ap (λ w. loaded c.load_front-word.ensures.loaded.journal w.core) c.add_pin-found.ensures.added.view in record {
       there = ap (λ w. Rattle.std.specs.Prelude.slice_get w.entries c.args.pins) core ∙ ap (Rattle.std.specs.Prelude.slice_get (pinned how.slots shown v).entries) c.requires.pins ∙ last_there v.entries e
-          ∙ ap Some (same_entry e c.args.seen.slot c.args.seen.w c.requires.front.slot c.requires.front.w (ne_eqb shown (front_number how.slots v.seen) other));
+          ∙ ap Some (same_entry e c.args.seen.slot c.args.seen.w false c.requires.front.slot c.requires.front.w (ne_eqb shown (front_number how.slots v.seen) other));
     }
 
 pub take_pin-requires-clause-inside : goal.take_pin-requires-clause-inside
@@ -79,19 +80,11 @@ take_copy-requires-clause-listed g c κs within =
     elim c.if-is_first.branch [
       | then-is_first w ↦
           ap (λ x. x.1.1.0) w.self-is ∙ w.take.ensures ∙ ap (λ at. at ∷ old.carried) (c.place_of-place.ensures ∙ ap (λ n. place n number) c.requires.front.slot) ∙ ap (λ l. place (front_slot how.slots v.seen) number ∷ l) old.listed
-          ∙ sym (first_taken home source how number (omega arith) old.seat.me c.add_pin-found.result c.add_pin-found.new.seat.me slots c.requires.replay c.requires.held places c.add_pin-found.ensures.added shown (is_not _ (sym test ∙ w.if-is_first.true)))
+          ∙ sym (first_taken home source how number (omega arith) old.seat.me c.add_pin-found.result c.add_pin-found.new.seat.me slots c.requires.replay c.requires.held places c.add_pin-found.ensures.added shown (not-true _ (sym test ∙ w.if-is_first.true)))
       | else-is_first w ↦
           ap (λ x. x.1.1.0) w.self-is ∙ old.listed
-          ∙ ap slots_of (sym (further_same home source how number (omega arith) old.seat.me c.add_pin-found.result c.add_pin-found.new.seat.me slots c.requires.replay c.requires.held places c.add_pin-found.ensures.added shown (isnt_not _ (sym test ∙ w.if-is_first.false))))
+          ∙ ap slots_of (sym (further_same home source how number (omega arith) old.seat.me c.add_pin-found.result c.add_pin-found.new.seat.me slots c.requires.replay c.requires.held places c.add_pin-found.ensures.added shown (not-false _ (sym test ∙ w.if-is_first.false))))
     ]
-  where
-    is_not : (b : Bool) → not b ≡ true → b ≡ false
-    is_not true e = sym e
-    is_not false e = refl
-
-    isnt_not : (b : Bool) → not b ≡ false → b ≡ true
-    isnt_not true e = refl
-    isnt_not false e = sym e
 
 pub take_copy-requires-clause-once : goal.take_copy-requires-clause-once
 take_copy-requires-clause-once g c κs within =
