@@ -10,7 +10,7 @@ use Rattle.pin_book.specs.declared.write.Write.{Write}
 use Rattle.pin_book.specs.Replay.{replays}
 use Rattle.pin_core.specs.declared.entry.Entry.{Entry}
 use Rattle.pin_core.specs.declared.view.View.{View}
-use Rattle.pin_core.specs.Core.{total, one_if, held_count, stray_count}
+use Rattle.pin_core.specs.Core.{total, one_if}
 use Rattle.pin_core.specs.Step.{MayPin}
 use Rattle.pin_table.specs.declared.position.Position.{Position}
 use Rattle.pin_table.specs.declared.reader.Reader.{Reader}

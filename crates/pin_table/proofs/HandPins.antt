@@ -1,15 +1,15 @@
 -- A pin of a reader: what it leaves in its hand where it holds the front, and where it missed.
-use Rattle.std.proofs.Common.{◌≡◌, ◌≢◌, ◌⊎◌, ℕ, zero, suc, ◌+◌, ◌/◌, ◌^◌, ◌<◌, ◌≤◌, List, [], ◌∷◌, ◌++◌, length, take, sym, refl, ap, ◌∙◌, subst, ⊎_elim, arith, Bool, true, false, ◌==◌, ◌||◌, ◌&&◌, ne_eqb, Some}
+use Rattle.std.proofs.Common.{◌≡◌, ◌≢◌, ℕ, ◌+◌, ◌/◌, ◌^◌, ◌<◌, List, [], ◌∷◌, ◌++◌, length, sym, refl, ap, ◌∙◌, subst, ⊎_elim, arith, Bool, true, false, ◌==◌, ◌||◌, ◌&&◌, ne_eqb, Some}
 use Rattle.std.specs.Prelude.{slice_get}
 use Rattle.std.specs.List.{Contains, remove, list_any}
-use Rattle.std.proofs.lemmas.Bool.{cases_Bool, or_parts, eqb-true}
+use Rattle.std.proofs.lemmas.Bool.{cases_Bool, or_parts}
 use Rattle.std.proofs.lemmas.List.Elements.{Contains-append_left, Contains-push}
 use Rattle.pin_book.specs.declared.write.Write.{Write}
-use Rattle.pin_book.specs.Replay.{front_number, front_slot, replays}
+use Rattle.pin_book.specs.Replay.{front_number, replays}
 use Rattle.atomic_table.specs.Table.{Me}
 use Rattle.pin_core.specs.declared.entry.Entry.{Entry}
 use Rattle.pin_core.specs.declared.view.View.{View}
-use Rattle.pin_core.specs.Core.{total, one_if, held_at, held_count}
+use Rattle.pin_core.specs.Core.{total, one_if}
 use Rattle.pin_core.specs.Step.{new_entry, pinned, loaded, unpinned}
 use Rattle.pin_core.specs.Packing.{place}
 use Rattle.pin_table.specs.declared.cell.Cell.{Cell}

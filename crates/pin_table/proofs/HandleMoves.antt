@@ -1,7 +1,7 @@
 -- How pins that are added and taken off change the places that a reader carries.
-use Rattle.std.proofs.Common.{◌≡◌, ◌≢◌, ◌⊎◌, ℕ, zero, suc, ◌+◌, ◌-◌, ◌*◌, ◌/◌, ◌<◌, ◌≤◌, List, [], ◌∷◌, ◌++◌, length, take, get_or, sym, refl, ap, ◌∙◌, subst, ⊎_elim, arith, Bool, true, false, ◌==◌, ◌&&◌, eq-eqb, ne_eqb, Some}
-use Rattle.std.specs.Prelude.{nat_lt, slice_get}
-use Rattle.std.specs.List.{Contains, All, remove}
+use Rattle.std.proofs.Common.{◌≡◌, ◌≢◌, ◌⊎◌, ℕ, ◌+◌, ◌<◌, ◌≤◌, List, [], ◌∷◌, ◌++◌, length, take, sym, refl, ap, ◌∙◌, subst, ⊎_elim, arith, Bool, true, false, ◌==◌, ◌&&◌, eq-eqb, ne_eqb}
+use Rattle.std.specs.Prelude.{nat_lt}
+use Rattle.std.specs.List.{Contains, All}
 use Rattle.std.proofs.lemmas.Bool.{cases_eq, cases_Bool, lt-ltb}
 use Rattle.std.proofs.lemmas.List.{take_all, length-take-le, length-append}
 use Rattle.std.proofs.lemmas.List.Elements.{All-nil, All-cons, All-head, All-tail, Contains-push_cases}
@@ -12,22 +12,21 @@ use Rattle.pin_core.specs.declared.entry.Entry.{Entry}
 use Rattle.pin_core.specs.declared.view.View.{View}
 use Rattle.pin_core.specs.Core.{times, total, one_if, held_at, held_count}
 use Rattle.pin_core.specs.Lawful.{entry_number}
-use Rattle.pin_core.specs.Step.{new_entry, pinned, unpinned}
+use Rattle.pin_core.specs.Step.{new_entry}
 use Rattle.pin_core.specs.Packing.{place}
-use Rattle.pin_core.proofs.Sums.{total-append, total-remove}
+use Rattle.pin_core.proofs.Sums.{total-append}
 use Rattle.pin_table.specs.declared.cell.Cell.{Cell}
 use Rattle.pin_table.specs.declared.cell.Cell.TheVariants.{Place}
 use Rattle.pin_table.specs.declared.shelf.TheConstants.{SHELF_COPIES}
 use Rattle.pin_table.specs.declared.sitting.Plan.{Plan}
-use Rattle.pin_table.specs.Carried.{slots_of, Exchanges}
+use Rattle.pin_table.specs.Carried.{slots_of}
 use Rattle.pin_table.specs.Shelf.{AreOf}
 use Rattle.pin_table.specs.Sources.{source_of}
-use Rattle.pin_table.specs.Places.{IsStocked}
-use Rattle.pin_table.specs.Plays.{TakesPlace, MayGivePlace}
-use Rattle.pin_table.specs.Handles.{HoldsFront, AreAllHeld, entry_source, is_place, shelf_in, slot_of, copies_out, IsOf, IsShelfAt, IsOwnPlace, CarriesPlaces, HasCopyAt, HasRoomAt, CopyTaken, CopyPut}
+use Rattle.pin_table.specs.Plays.{TakesPlace}
+use Rattle.pin_table.specs.Handles.{HoldsFront, AreAllHeld, entry_source, is_place, shelf_in, slot_of, copies_out, IsOf, IsOwnPlace, CarriesPlaces, HasCopyAt, CopyTaken}
 use Rattle.pin_table.proofs.SourceLemmas.{source_kept, front_some}
 use Rattle.pin_table.proofs.PinMoves.{held_entry}
-use Rattle.pin_table.proofs.ExchangeLemmas.{among_one_more, head_among, tail_among, same_slots, other_sum, was_carried, now_carried, others_same}
+use Rattle.pin_table.proofs.ExchangeLemmas.{among_one_more, same_slots, other_sum, was_carried, now_carried}
 
 -- ---- sources ----
 

@@ -1,8 +1,8 @@
 -- What a call that pins or releases leaves.
-use Rattle.std.specs.Prelude.{◌≡◌, ℕ, ◌+◌, ◌≤◌, ◌<◌, Some, List, [], ◌∷◌, ◌++◌, length, take, slice_get}
+use Rattle.std.specs.Prelude.{◌≡◌, ℕ, ◌+◌, ◌≤◌, ◌<◌, Some, List, [], ◌∷◌, ◌++◌, length, slice_get}
 use Rattle.pin_book.specs.declared.payload.Payload.{Ghosts}
 use Rattle.pin_book.specs.declared.write.Write.{Write}
-use Rattle.pin_book.specs.Replay.{replays, kept_number}
+use Rattle.pin_book.specs.Replay.{kept_number}
 use Rattle.pin_core.specs.declared.view.View.{View}
 use Rattle.pin_core.specs.Step.{loaded, unpinned}
 use Rattle.pin_table.specs.declared.answers.Released.{Released}

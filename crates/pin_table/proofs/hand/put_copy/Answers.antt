@@ -1,4 +1,4 @@
-use Rattle.std.proofs.Common.{◌≡◌, ◌<◌, ◌∷◌, ◌∙◌, length, sym, ap, subst}
+use Rattle.std.proofs.Common.{◌<◌, ◌∷◌, ◌∙◌, length, sym, ap, subst}
 use Rattle.std.specs.Arc.{arc_value}
 use Rattle.pin_core.specs.Core.{times}
 use Rattle.pin_table.specs.declared.cell.Cell.TheVariants.{Empty, Place}

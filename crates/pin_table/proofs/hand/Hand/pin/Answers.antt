@@ -1,4 +1,4 @@
-use Rattle.std.proofs.Common.{◌≡◌, ◌≢◌, ◌<◌, ◌/◌, ◌^◌, ◌∷◌, [], List, ◌∙◌, length, sym, ap, subst, arith, true, false, not, ◌==◌, refl, Bool, Some, ne_eqb}
+use Rattle.std.proofs.Common.{◌≢◌, ◌<◌, ◌/◌, ◌^◌, ◌∷◌, ◌∙◌, length, sym, ap, subst, arith, false, not, ◌==◌, refl, Some, ne_eqb}
 use Rattle.std.proofs.lemmas.List.{length-map}
 use Rattle.std.proofs.lemmas.Bool.{not-true, not-false}
 use Rattle.std.specs.Arc.{arc_value}
@@ -16,8 +16,8 @@ use Rattle.pin_table.specs.Seat.{knowing}
 use Rattle.pin_table.specs.Table.{plan}
 use Rattle.pin_table.proofs.StepLemmas.{for_reader}
 use Rattle.pin_table.proofs.PlaceLemmas.{few_carried}
-use Rattle.pin_table.proofs.HandleMoves.{added, added_holds, added_source, CarriesFor, carried_once, has_copy, copy_is, carries_after_pin}
-use Rattle.pin_table.proofs.HandPins.{missed, missed_carried, missed_places, all_counted, last_there, last_removed, same_entry, goes_on_without, missed_later, first_taken, further_same, pin_carries}
+use Rattle.pin_table.proofs.HandleMoves.{added, added_holds, added_source, carried_once, has_copy, copy_is, carries_after_pin}
+use Rattle.pin_table.proofs.HandPins.{missed, missed_carried, missed_places, all_counted, last_there, same_entry, first_taken, further_same, pin_carries}
 use Rattle.pin_table.proofs.hand.Hand.pin.Goals as goal
 use Rattle.pin_table.proofs.hand.Hand.pin.Goals.{then-is_first, else-is_first}
 

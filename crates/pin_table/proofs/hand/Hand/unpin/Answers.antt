@@ -1,9 +1,7 @@
-use Rattle.std.proofs.Common.{◌≡◌, ◌<◌, ◌∙◌, ◌==◌, sym, ap, subst, arith, drop, not}
+use Rattle.std.proofs.Common.{◌<◌, ◌∙◌, sym, ap, subst, arith, drop}
 use Rattle.std.proofs.lemmas.Bool.{not-true, not-false}
 use Rattle.std.specs.Arc.{arc_value}
-use Rattle.std.specs.List.{list_any, remove}
 use Rattle.atomic_table.specs.Table.{rest}
-use Rattle.pin_core.specs.declared.entry.Entry.{Entry}
 use Rattle.pin_core.specs.Core.{IsReader, times, held_at}
 use Rattle.pin_core.specs.Lawful.{entry_number}
 use Rattle.pin_core.specs.Packing.{place}

@@ -1,4 +1,4 @@
-use Rattle.std.proofs.Common.{◌<◌, ap, subst, sym, length}
+use Rattle.std.proofs.Common.{◌<◌, subst, sym, length}
 use Rattle.pin_core.specs.declared.view.View.{View}
 use Rattle.pin_table.specs.declared.reader.TheConstants.{MOST_HANDLES}
 use Rattle.pin_table.proofs.FrontLemmas.{missed_again}
