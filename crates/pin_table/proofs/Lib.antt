@@ -15,3 +15,4 @@ pub mod StoreMoves
 pub mod RunLemmas
 pub mod PlayLemmas
 pub mod PlaceLemmas
+pub mod TurnLemmas

@@ -83,13 +83,14 @@ module _ {P H : Type 0} where
     pub slot : found % 2 ^ 6 ≡ front_slot plan.slots journal
     pub inside : front_slot plan.slots journal < plan.slots
 
-  -- another reader has the turn
+  -- another reader has the turn, so there is more than one
   pub record TurnMissed (plan : Plan P) (number : ℕ) (m : Me (Cell P H) (Sitting P)) (found : ℕ) (m' : Me (Cell P H) (Sitting P)) : Type 0 where
     pub holder : ℕ
     pub seat : m' ≡ (knowing (was_refused (Some holder) m.0.core) m.0, m.1)
     pub named : found ≡ packed_turn (Some holder)
     pub other : holder ≢ number
     pub inside : holder < plan.readers
+    pub several : 1 < plan.readers
 
   module _ (home : P → H) (source : P → ℕ) where
     -- the seat has taken a place, which is stocked with the version of this number

@@ -30,6 +30,7 @@ mod copies;
 mod exchange;
 mod hand;
 mod layout;
+mod listing_calls;
 mod main_seat;
 mod no_reader;
 mod opening;
@@ -46,9 +47,11 @@ mod steps;
 mod table;
 #[cfg(test)]
 mod tests;
+mod turns;
 
 pub use answers::{
-    Busy, EraseWhy, Erased, Listing, MOST_ROWS, PushRefused, PushWhy, Pushed, Released, TooManyHandles,
+    Busy, EraseWhy, Erased, Listing, MOST_ROWS, PushRefused, PushWhy, Pushed, Released,
+    TooManyHandles,
 };
 pub use cell::Cell;
 pub use copies::Copies;
