@@ -16,3 +16,4 @@ pub mod RunLemmas
 pub mod PlayLemmas
 pub mod PlaceLemmas
 pub mod TurnLemmas
+pub mod HandLemmas

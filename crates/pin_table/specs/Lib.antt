@@ -15,6 +15,7 @@ pub mod Main
 pub mod Parting
 pub mod Closing
 pub mod Handles
+pub mod Idle
 pub mod BookHeld
 pub mod Turns
 pub mod Reader

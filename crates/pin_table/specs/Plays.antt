@@ -30,7 +30,8 @@ ForReader {P} v fact = (plan : Plan P) (number : ℕ) → v.plan ≡ Some plan �
 
 -- What holds of the journal at a step of this reader: it goes on from what the reader has seen, it replays, and has room
 -- for what the reader may still write. The reader's own writes are its own part of it. Each slot where the reader has a
--- handle keeps the handle's number after it, and each of its strays is older than the last write.
+-- handle keeps the handle's number after it, and each of its strays is older than the last write. The reader has eight
+-- pins at most.
 pub record GoesOn (slots room number : ℕ) (v : View) (journal : List Write) : Type 0 where
   pub grows : take (length v.seen) journal ≡ v.seen
   pub replay : replays slots journal ≡ true
@@ -38,6 +39,7 @@ pub record GoesOn (slots room number : ℕ) (v : View) (journal : List Write) : 
   pub own : writes_by number journal ≡ v.own
   pub handles : (e : Entry) → Contains v.entries e → e.held ≡ true → kept_number slots journal e.slot ≡ entry_number slots journal e
   pub strays : (e : Entry) → Contains v.entries e → e.held ≡ false → e.position < length journal
+  pub few : length v.entries ≤ 8
 
 -- the word of a slot that no pin is at, with the number that the slot keeps after this journal
 abbrev pub unpinned_word : ℕ → List Write → ℕ → ℕ

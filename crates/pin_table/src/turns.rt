@@ -8,7 +8,6 @@ ghost use Rattle.pin_table.specs.BookHeld.{HoldsBook};
 ghost use Rattle.pin_table.specs.Carried.{slots_of};
 ghost use Rattle.pin_table.specs.declared.cell.Cell.TheVariants.{Empty};
 ghost use Rattle.pin_table.specs.declared.answers.TheConstants.{MOST_ROWS};
-ghost use Rattle.pin_table.specs.declared.exchange.TheConstants.{MOST_CARRIED};
 ghost use Rattle.pin_table.specs.Plays.{TurnMissed, TurnGiven};
 ghost use Rattle.pin_table.specs.Position.{IsAfter};
 ghost use Rattle.pin_table.specs.Sources.{book_of};
@@ -44,7 +43,7 @@ pub(crate) fn take_turn<P: Payload>(
     requires reader { IsReader number seat.old.me.0.core }
     requires may { MayTakeTurn seat.old.me.0.core }
     requires listed { carried.old ≡ slots_of seat.old.me.1 }
-    requires few { length carried.old < MOST_CARRIED }
+    requires few { length carried.old ≤ length seat.old.me.0.core.entries }
     requires apart { times (book_place_of (plan table.now).slots) carried.old ≡ 0 }
     ensures own { IsAt table.now seat.new }
     ensures listed { carried.new ≡ slots_of seat.new.me.1 }

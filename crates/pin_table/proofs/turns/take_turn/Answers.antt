@@ -6,6 +6,9 @@ use Rattle.pin_table.specs.Table.{plan}
 use Rattle.pin_table.proofs.TurnLemmas.{took_book, same_book}
 use Rattle.pin_table.proofs.turns.take_turn.Goals as goal
 
+pub take-requires : goal.take-requires
+take-requires g c = let won : c.try_turn-found.result ≡ 0 = omega arith in let few = (c.try_turn-found.ensures.tried.won won).goes_on.few in let low = c.requires.few in omega arith
+
 pub unreachable-requires : goal.unreachable-requires
 unreachable-requires g c =
     let table = c.args.table.now in let won : c.try_turn-found.result ≡ 0 = omega arith in let place = c.book_place-place.ensures ∙ ap book_place table.made.0 in let x = c.exchange.ensures in
