@@ -33,7 +33,7 @@ pub record LeavesHandles (slots : ℕ) (v v' : View) : Type 0 where
   pub turn : v'.turn ≡ false
   pub claimed : v'.claimed ≡ None
   pub grows : take (length v.seen) v'.seen ≡ v.seen
-  pub kept : (e : Entry) → Contains v.entries e → kept_number slots v'.seen e.slot ≡ entry_number slots v.seen e
+  pub kept : (e : Entry) → Contains v.entries e → kept_number slots v'.seen e.slot ≡ entry_number slots v'.seen e
 
 -- a refused turn leaves them
 pub refused_leaves : (slots number : ℕ) (holder : Option ℕ) (v : View) → IsIdle slots number v → LeavesHandles slots v (was_refused holder v)
@@ -89,7 +89,7 @@ module _ {P H : Type 0} (home : P → H) (source : P → ℕ) (plan : Plan P) (n
   none_of slot [] other = refl
   none_of slot (x ∷ xs) other =
       let here = ap one_if (ne_eqb x.0 slot (other x (0, (omega arith), refl))) in
-      let later = none_of slot xs (λ y among. other y (suc among.0, (let low = among.1.0 in omega arith), among.1.1)) in omega arith
+      let later = none_of slot xs (λ y among. other y (suc among.0, (let low = among.1 in omega arith), among.2)) in omega arith
 
   -- the book's place isn't a reader's own
   pub book_apart : (v : View) (carried : List (ℕ × Cell P H)) → CarriesPlaces home source plan number v carried → times (book_place plan.slots) (slots_of carried) ≡ 0

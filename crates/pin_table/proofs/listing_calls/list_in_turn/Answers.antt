@@ -1,4 +1,5 @@
 use Rattle.std.proofs.Common.{◌≡◌, ◌≤◌, ◌∙◌, subst, sym, ap, arith, length, Some}
+use Rattle.std.proofs.lemmas.List.{length-map}
 use Rattle.pin_core.specs.Core.{times}
 use Rattle.pin_core.specs.Packing.{book_place}
 use Rattle.pin_core.specs.Step.{was_refused, got_turn, gave_turn}
@@ -15,11 +16,11 @@ pub take_turn-requires-clause-few : goal.take_turn-requires-clause-few
 take_turn-requires-clause-few g c =
     let hand = c.args.hand.now in let how = plan c.args.table.now in
     let few = few_carried g.P.Payload.home g.P.Payload.source how c.args.number hand.seat.me.0.core hand.seat.me.1 (hand.places how c.args.number c.requires.own.plan_is c.requires.idle.reader) in
-    let long = ap (λ l. length l) hand.listed in ?
+    let long = ap (λ l. length l) hand.listed in let same = length-map hand.seat.me.1 (λ x. x.0) in λ _ _. omega arith
 
 pub take_turn-requires-clause-apart : goal.take_turn-requires-clause-apart
 take_turn-requires-clause-apart g c =
-    let hand = c.args.hand.now in let how = plan c.args.table.now in ap (times (book_place how.slots)) hand.listed
+    let hand = c.args.hand.now in let how = plan c.args.table.now in λ _ _. ap (times (book_place how.slots)) hand.listed
     ∙ book_apart g.P.Payload.home g.P.Payload.source how c.args.number hand.seat.me.0.core hand.seat.me.1 (hand.places how c.args.number c.requires.own.plan_is c.requires.idle.reader)
 
 pub invariant_of-hand : goal.invariant_of-hand
@@ -43,7 +44,7 @@ rows_in-requires g c =
 
 pub give_turn_back-requires-clause-apart : goal.give_turn_back-requires-clause-apart
 give_turn_back-requires-clause-apart g c =
-    let hand = c.args.hand.now in let how = plan c.args.table.now in
+    let hand = c.args.hand.now in let how = plan c.args.table.now in λ _ _.
     ap (λ l. times (book_place how.slots) (slots_of l)) (carried_behind g.P.Payload.home g.P.Payload.name_of how c.args.number hand.seat.me c.take_turn.new.seat.me _ c.in_ok-book.ensures.held)
     ∙ book_apart g.P.Payload.home g.P.Payload.source how c.args.number hand.seat.me.0.core hand.seat.me.1 (hand.places how c.args.number c.requires.own.plan_is c.requires.idle.reader)
 
