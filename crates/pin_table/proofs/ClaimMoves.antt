@@ -1,5 +1,5 @@
 -- A try to claim a slot keeps the rule, and tells whether the slot was found pinned.
-use Rattle.std.proofs.Common.{◌≡◌, ◌≢◌, ◌⊎◌, ℕ, ◌+◌, ◌*◌, ◌^◌, ◌<◌, ◌≤◌, List, [], ◌∷◌, ◌++◌, length, set, get_or, refl, sym, ap, ◌∙◌, subst, ⊎_elim, inl, inr, arith, true, false, ◌==◌, eq-eqb, ne_eqb, Option, Some, None}
+use Rattle.std.proofs.Common.{◌≡◌, ◌≢◌, ◌⊎◌, ℕ, ◌+◌, ◌<◌, ◌≤◌, List, length, set, refl, sym, ap, ◌∙◌, subst, ⊎_elim, inl, inr, arith, ◌==◌, eq-eqb, ne_eqb, Some}
 use Rattle.std.specs.Prelude.{slice_index}
 use Rattle.std.proofs.lemmas.Bool.{cases_eq, cases_lt, cond-true, cond-false}
 use lib.Seq.{set-get_or}
@@ -7,14 +7,11 @@ use prog.Atomic.{either}
 use mathlib.Core.Option as maybe
 use mathlib.Core.Option.{some}
 use lib.ListN.{get_elem?}
-use Rattle.atomic_table.specs.Table.{State, Me, keeps, homes_after, carried_after, Allows}
-use Rattle.pin_book.specs.declared.write.Write.{Write}
+use Rattle.atomic_table.specs.Table.{State, Me, keeps, homes_after, Allows}
 use Rattle.pin_book.specs.declared.limits.TheConstants.{READER_NUMBERS}
 use Rattle.pin_book.specs.Replay.{front_number, kept_number, is_taken}
-use Rattle.pin_core.specs.declared.entry.SlotWord.{SlotWord}
 use Rattle.pin_core.specs.declared.view.View.{View}
-use Rattle.pin_core.specs.Core.{CoreState, IsReader, number_at, count_at, total}
-use Rattle.pin_core.specs.Lawful.{away}
+use Rattle.pin_core.specs.Core.{CoreState, IsReader, number_at, count_at}
 use Rattle.pin_core.specs.Step.{MayClaim, claiming, found_pinned, claim, claim_slot, miss_slot}
 use Rattle.pin_core.specs.Run.{Moves, claims_slot}
 use Rattle.pin_core.specs.Packing.{packed_slot, place, book_place}
@@ -25,10 +22,10 @@ use Rattle.pin_table.specs.declared.sitting.Plan.{Plan}
 use Rattle.pin_table.specs.declared.sitting.Sitting.{Sitting}
 use Rattle.pin_table.specs.Layout.{slot_word}
 use Rattle.pin_table.specs.Seat.{knowing}
-use Rattle.pin_table.specs.Runs.{run_from, takes_run}
+use Rattle.pin_table.specs.Runs.{takes_run}
 use Rattle.pin_table.specs.Places.{IsPlaceAt, StandsAtHome}
 use Rattle.pin_table.specs.Rule.{Kept}
-use Rattle.pin_table.specs.Plays.{ForReader, MayClaimSlot, SlotClaimed, SlotTried, unpinned_word, claimed_word}
+use Rattle.pin_table.specs.Plays.{ForReader, MayClaimSlot, SlotTried, unpinned_word, claimed_word}
 use Rattle.pin_table.proofs.RunLemmas.{carried_taken, taken_else, taken_length, taken_valid, gathered}
 use Rattle.pin_table.proofs.StepLemmas.{same_words, slot_written, Known, known, after_step, Steps, lives, for_step}
 

@@ -1,5 +1,5 @@
 -- A table whose main has all reader numbers: nobody has the turn, the book is at home, and the main knows its journal.
-use Rattle.std.proofs.Common.{◌≡◌, ◌≢◌, ℕ, ◌+◌, ◌<◌, ◌≤◌, List, [], ◌∷◌, length, sym, refl, ap, ◌∙◌, subst, arith, eq-eqb, ◌==◌, Option, Some, None}
+use Rattle.std.proofs.Common.{◌≡◌, ◌≢◌, ℕ, ◌<◌, List, length, sym, refl, ap, ◌∙◌, subst, arith, eq-eqb, ◌==◌, Option, Some, None}
 use mathlib.Core.Option as maybe
 use lib.ListN.{get_elem?}
 use Rattle.std.specs.List.{All}
@@ -8,7 +8,7 @@ use Rattle.pin_book.specs.declared.write.Write.{Write}
 use Rattle.pin_book.specs.Book.{Chronicle}
 use Rattle.pin_core.specs.declared.view.View.{View}
 use Rattle.pin_core.specs.declared.view.Role.TheVariants as roles
-use Rattle.pin_core.specs.Core.{CoreState, times, one_if, has_number, IsReader}
+use Rattle.pin_core.specs.Core.{CoreState, times, one_if, has_number}
 use Rattle.pin_core.specs.Lawful.{Lawful}
 use Rattle.pin_core.specs.Step.{HasReader}
 use Rattle.pin_core.specs.Packing.{book_place}

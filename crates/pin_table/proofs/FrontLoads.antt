@@ -1,27 +1,21 @@
 -- A load of the front word keeps the rule, and tells what it shows.
-use Rattle.std.proofs.Common.{◌≡◌, ℕ, ◌+◌, ◌*◌, ◌/◌, ◌%◌, ◌^◌, ◌<◌, ◌≤◌, List, length, take, set, refl, sym, ap, ◌∙◌, subst, arith, Some, true, false}
+use Rattle.std.proofs.Common.{◌≡◌, ℕ, ◌/◌, ◌%◌, ◌^◌, List, length, set, refl, sym, ap, ◌∙◌, subst, arith, Some}
 use Rattle.std.proofs.lemmas.List.{take_all}
-use Rattle.std.proofs.lemmas.Option.{same_Some}
-use Rattle.std.specs.List.{Contains}
 use lib.Seq.{set-get_or}
-use mathlib.Core.Option.{some}
-use lib.ListN.{get_elem?}
 use Rattle.std.specs.Prelude.{slice_index}
 use Rattle.std.proofs.lemmas.List.Elements.{All-contains}
 use Rattle.atomic_table.specs.Table.{State, Me, keeps, Allows}
 use Rattle.pin_book.specs.declared.write.Write.{Write}
-use Rattle.pin_book.specs.Replay.{front_number, front_slot, kept_number, replays}
+use Rattle.pin_book.specs.Replay.{kept_number}
 use Rattle.pin_book.proofs.Journals.{front_slot_inside}
-use Rattle.pin_core.specs.declared.entry.Entry.{Entry}
 use Rattle.pin_core.specs.declared.view.View.{View}
 use Rattle.pin_core.specs.Core.{CoreState, Front, IsReader}
-use Rattle.pin_core.specs.Lawful.{WasFront, entry_number}
+use Rattle.pin_core.specs.Lawful.{WasFront}
 use Rattle.pin_core.specs.Step.{loaded, load_front, opening_state}
 use Rattle.pin_core.specs.Run.{Reaches, loads}
-use Rattle.pin_core.specs.Packing.{packed_front, place}
+use Rattle.pin_core.specs.Packing.{place}
 use Rattle.pin_core.proofs.Packing.{front_small, front_back}
 use Rattle.pin_core.proofs.Readers.{part_of_journal, own_writes, room_for, keeps as keeps_slot}
-use Rattle.pin_core.proofs.Seats.{is_live}
 use Rattle.pin_core.proofs.AtHome.{load_home}
 use Rattle.pin_table.specs.declared.cell.Cell.{Cell}
 use Rattle.pin_table.specs.declared.sitting.Plan.{Plan}

@@ -14,6 +14,7 @@ pub mod ClaimMoves
 pub mod StoreMoves
 pub mod RunLemmas
 pub mod PlayLemmas
+pub mod ExchangeLemmas
 pub mod PlaceLemmas
 pub mod TurnLemmas
 pub mod HandLemmas

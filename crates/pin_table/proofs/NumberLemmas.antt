@@ -1,12 +1,11 @@
 -- Which reader numbers a main has.
-use Rattle.std.proofs.Common.{◌++◌, [], ◌∷◌, ◌≡◌, ◌≢◌, ◌↔◌, ℕ, zero, suc, ◌+◌, ◌<◌, ◌≤◌, List, length, set, get_or, sym, refl, ap, ◌∙◌, ⊎_elim, arith, Bool, true, false, not, cond, ◌==◌, Option, Some, None, eq-eqb, ne_eqb, get_or-set_other, get_or-set_same}
+use Rattle.std.proofs.Common.{◌++◌, [], ◌∷◌, ◌≡◌, ◌≢◌, ◌↔◌, ℕ, zero, suc, ◌+◌, ◌<◌, ◌≤◌, List, length, set, get_or, sym, refl, ap, ◌∙◌, ⊎_elim, arith, Bool, true, false, not, cond, ◌==◌, Some, None, eq-eqb, ne_eqb, get_or-set_other, get_or-set_same}
 use Rattle.std.specs.Prelude.{position, nat_lt}
 use Rattle.std.specs.List.{range_with_len, filter, position_or_len}
 use Rattle.std.proofs.lemmas.List.Quantifiers.{position-Some}
 use Rattle.std.proofs.lemmas.Bool.{cases_eq, cases_lt, lt-ltb, cond-true, cond-false, not_from_true, not_from_false}
-use Rattle.pin_core.specs.declared.view.View.{View}
 use Rattle.pin_core.specs.Core.{times, has_number, one_if}
-use Rattle.pin_core.specs.Step.{main_at_first, left_over, taken_in}
+use Rattle.pin_core.specs.Step.{main_at_first}
 use Rattle.pin_table.specs.Numbers.{IsLeastNumber}
 use Rattle.pin_core.proofs.Opening.{opens}
 use Rattle.pin_core.proofs.Sums.{total-append}

@@ -1,6 +1,6 @@
 -- A pin that is added or taken off keeps the rule, and tells what the slot's word shows.
-use Rattle.std.proofs.Common.{◌≡◌, ◌≢◌, ℕ, zero, suc, ◌+◌, ◌-◌, ◌*◌, ◌/◌, ◌%◌, ◌^◌, ◌<◌, ◌≤◌, List, [], ◌∷◌, ◌++◌, length, take, set, refl, sym, ap, ◌∙◌, subst, ⊎_elim, arith, mod-eq_of_lt, length-set, Bool, true, false, cond, ◌==◌, ◌&&◌, eq-eqb, ne_eqb, Some}
-use Rattle.std.specs.Prelude.{slice_index, slice_get}
+use Rattle.std.proofs.Common.{◌≡◌, ◌≢◌, ℕ, suc, ◌+◌, ◌-◌, ◌/◌, ◌%◌, ◌^◌, ◌<◌, ◌≤◌, List, [], ◌∷◌, length, take, set, refl, sym, ap, ◌∙◌, subst, ⊎_elim, arith, mod-eq_of_lt, length-set, true, false, cond, ◌==◌, ◌&&◌, eq-eqb, Some}
+use Rattle.std.specs.Prelude.{slice_index}
 use Rattle.std.specs.List.{Contains}
 use Rattle.std.proofs.lemmas.Bool.{cases_eq, cases_Bool, and_parts, eqb-true, both_ways}
 use Rattle.std.proofs.lemmas.Option.{slice_get_within, get_or_from_slice_get}
@@ -10,11 +10,9 @@ use mathlib.Core.Option.{some}
 use lib.ListN.{get_elem?}
 use Rattle.atomic_table.specs.Table.{State, Me, keeps, takes, gives, put_back, Allows}
 use Rattle.atomic_table.proofs.Lists.{set_else, set_here}
-use Rattle.pin_book.specs.declared.write.Write.{Write}
-use Rattle.pin_book.specs.Replay.{front_number, front_slot, kept_number, replays}
-use Rattle.pin_book.proofs.Journals.{front_slot_inside, front_kept, kept_le, replays_take}
+use Rattle.pin_book.specs.Replay.{front_number, front_slot, replays}
+use Rattle.pin_book.proofs.Journals.{front_slot_inside, replays_take}
 use Rattle.pin_core.specs.declared.entry.Entry.{Entry}
-use Rattle.pin_core.specs.declared.entry.SlotWord.{SlotWord}
 use Rattle.pin_core.specs.declared.view.View.{View}
 use Rattle.pin_core.specs.Core.{CoreState, IsReader, number_at, count_at, total, one_if, held_at, has_number, has_claimed}
 use Rattle.pin_core.specs.Lawful.{Lawful, away, WasFront, entry_number}
@@ -37,12 +35,12 @@ use Rattle.pin_table.specs.Seat.{knowing}
 use Rattle.pin_table.specs.Sources.{source_of}
 use Rattle.pin_table.specs.Places.{IsStocked, IsPlaceAt, StandsAtHome}
 use Rattle.pin_table.specs.Rule.{Kept}
-use Rattle.pin_table.specs.Plays.{ForReader, TakesPlace, MayGivePlace, PinAdded, PinTaken}
+use Rattle.pin_table.specs.Plays.{ForReader, MayGivePlace, PinAdded, PinTaken}
 use Rattle.pin_table.proofs.SourceLemmas.{source_kept, front_some, front_rises}
-use Rattle.pin_table.proofs.StepLemmas.{slot_written, Known, known, after_step, set_at, Steps, lives, seen_part, seen_replays, reader_inside, plan_here, same_plan, for_step}
+use Rattle.pin_table.proofs.StepLemmas.{slot_written, Known, known, after_step, set_at, Steps, seen_part, seen_replays, reader_inside, plan_here, same_plan, for_step}
 
 -- where a reader has a handle at the slot, it has an entry that says so
-held_entry : (slot : ℕ) (entries : List Entry) → 0 < total (λ (e : Entry). one_if ((e.slot == slot) && e.held)) entries → (e : Entry) × Contains entries e × (e.slot ≡ slot) × (e.held ≡ true)
+pub held_entry : (slot : ℕ) (entries : List Entry) → 0 < total (λ (e : Entry). one_if ((e.slot == slot) && e.held)) entries → (e : Entry) × Contains entries e × (e.slot ≡ slot) × (e.held ≡ true)
 held_entry slot [] more = absurd (omega arith)
 held_entry slot (e ∷ es) more = ⊎_elim
     (λ (yes : ((e.slot == slot) && e.held) ≡ true). let both = and_parts (e.slot == slot) e.held yes in (e, (0, (omega arith), refl), eqb-true e.slot slot both.0, both.1))

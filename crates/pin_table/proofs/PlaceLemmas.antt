@@ -1,18 +1,18 @@
 -- The places that a reader carries, as it pins, releases and sees more of the journal.
-use Rattle.std.proofs.Common.{◌≡◌, ◌≢◌, ◌⊎◌, ℕ, zero, suc, ◌+◌, ◌-◌, ◌*◌, ◌/◌, ◌<◌, ◌≤◌, List, [], ◌∷◌, ◌++◌, length, take, sym, refl, ap, ◌∙◌, subst, ⊎_elim, arith, true}
+use Rattle.std.proofs.Common.{◌≡◌, ℕ, zero, suc, ◌≤◌, List, [], ◌∷◌, length, take, sym, refl, ap, ◌∙◌, subst, arith}
 use Rattle.std.proofs.lemmas.List.{take-take}
 use Rattle.std.specs.List.{Contains, All}
 use Rattle.pin_book.specs.declared.write.Write.{Write}
 use Rattle.pin_book.specs.Replay.{kept_number, front_number, front_slot}
 use Rattle.pin_core.specs.declared.entry.Entry.{Entry}
 use Rattle.pin_core.specs.declared.view.View.{View}
-use Rattle.pin_core.specs.Core.{held_at, total, one_if}
+use Rattle.pin_core.specs.Core.{held_at, total}
 use Rattle.pin_core.specs.Lawful.{entry_number}
 use Rattle.pin_table.specs.declared.cell.Cell.{Cell}
 use Rattle.pin_table.specs.declared.sitting.Plan.{Plan}
 use Rattle.pin_table.specs.Sources.{source_of}
 use Rattle.pin_table.specs.Plays.{GoesOn}
-use Rattle.pin_table.specs.Handles.{entry_source, HoldsFront, IsOf, IsShelfAt, IsOwnPlace, CarriesPlaces, shelf_in, slot_of, copies_out}
+use Rattle.pin_table.specs.Handles.{HoldsFront, IsOf, IsShelfAt, IsOwnPlace, CarriesPlaces, shelf_in, slot_of, copies_out}
 
 -- a front part of what was seen stays
 pub take_seen : (n : ℕ) (seen later : List Write) → n ≤ length seen → take (length seen) later ≡ seen → take n later ≡ take n seen
@@ -86,4 +86,4 @@ module _ {P H : Type 0} (home : P → H) (source : P → ℕ) (plan : Plan P) (n
       each_out [] own = omega arith
       each_out (x ∷ xs) own =
           let mine = own x (0, (omega arith), refl) in let some_handle = mine.some_handle in let many = mine.shelf.many in
-          let more = each_out xs (λ y among. own y (suc among.0, (let low = among.1.0 in omega arith), among.1.1)) in omega arith
+          let more = each_out xs (λ y among. own y (suc among.0, (let low = among.1 in omega arith), among.2)) in omega arith

@@ -1,5 +1,5 @@
 -- What is known in a state that meets the rule, and what a step leaves of its words.
-use Rattle.std.proofs.Common.{◌≡◌, ◌≢◌, ℕ, zero, suc, ◌+◌, ◌*◌, ◌<◌, ◌≤◌, List, [], ◌∷◌, map, length, take, set, get_or, true, sym, refl, ap, ◌∙◌, subst, ⊎_elim, arith, Some}
+use Rattle.std.proofs.Common.{◌≡◌, ◌≢◌, ℕ, zero, suc, ◌<◌, List, [], ◌∷◌, length, take, set, true, sym, refl, ap, ◌∙◌, subst, ⊎_elim, arith, Some}
 use Rattle.std.proofs.Common.{get_or-set_other, get_or-set_same}
 use Rattle.std.proofs.Math.ListN.{length-set}
 use Rattle.std.proofs.lemmas.Bool.{cases_eq}
@@ -32,7 +32,7 @@ use Rattle.pin_table.specs.declared.sitting.Plan.{Plan}
 use Rattle.pin_table.specs.declared.sitting.Sitting.{Sitting}
 use Rattle.pin_table.specs.declared.layout.TheConstants.{FRONT_WORD, TURN_WORD}
 use Rattle.pin_table.specs.Layout.{slot_word, word_count}
-use Rattle.pin_table.specs.Seat.{core_of, HasSizes}
+use Rattle.pin_table.specs.Seat.{core_of}
 use Rattle.pin_table.specs.Places.{StandsAtHome}
 use Rattle.pin_table.specs.Rule.{Shows, Kept}
 use Rattle.pin_table.proofs.OldStrays.{sizes_stay}

@@ -1,6 +1,5 @@
 -- A store of the front word, after an erase or a push, keeps the rule.
-use Rattle.std.proofs.Common.{◌≡◌, ◌≢◌, ◌⊎◌, ℕ, ◌+◌, ◌*◌, ◌^◌, ◌<◌, ◌≤◌, List, [], ◌∷◌, ◌++◌, length, set, drop, get_or, refl, sym, ap, ◌∙◌, subst, ⊎_elim, inl, inr, arith, true, Option, Some, None}
-use Rattle.std.specs.Prelude.{slice_index}
+use Rattle.std.proofs.Common.{◌≡◌, ℕ, ◌+◌, ◌<◌, ◌≤◌, List, [], ◌∷◌, ◌++◌, length, set, drop, refl, sym, ap, ◌∙◌, subst, arith, true, Some}
 use mathlib.Core.Option as maybe
 use mathlib.Core.Option.{some}
 use lib.ListN.{get_elem?}
@@ -9,7 +8,7 @@ use Rattle.pin_book.specs.declared.write.Write.{Write}
 use Rattle.pin_book.specs.declared.write.Change.{Change}
 use Rattle.pin_book.specs.declared.write.Change.TheVariants.{Push, Erase}
 use Rattle.pin_book.specs.declared.limits.TheConstants.{READER_NUMBERS}
-use Rattle.pin_book.specs.Replay.{front_number, kept_number, state_after, allowed}
+use Rattle.pin_book.specs.Replay.{front_number, state_after, allowed}
 use Rattle.pin_book.proofs.ReplayLemmas.{push_asks}
 use Rattle.pin_book.proofs.Journals.{kept_le}
 use Rattle.pin_core.specs.declared.view.View.{View}
@@ -17,7 +16,7 @@ use Rattle.pin_core.specs.Core.{CoreState, IsReader, number_at, total, has_claim
 use Rattle.pin_core.specs.Lawful.{away, PlacesAtHome}
 use Rattle.pin_core.specs.Step.{MayStore, HasClaimed, stored, store_front, front_after}
 use Rattle.pin_core.specs.Run.{stores}
-use Rattle.pin_core.specs.Packing.{packed_front, place, book_place}
+use Rattle.pin_core.specs.Packing.{packed_front, place}
 use Rattle.pin_core.proofs.Sums.{total_zero, total_none}
 use Rattle.pin_core.proofs.AtHome.{erase_home, push_home, store_book}
 use Rattle.pin_table.specs.declared.cell.Cell.{Cell}

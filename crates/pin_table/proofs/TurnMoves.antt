@@ -1,5 +1,5 @@
 -- A try for the turn, a turn given back and the store of an erase keep the rule.
-use Rattle.std.proofs.Common.{◌≡◌, ◌≢◌, ℕ, ◌+◌, ◌*◌, ◌<◌, ◌≤◌, List, [], ◌∷◌, ◌++◌, length, take, set, get_or, refl, sym, ap, ◌∙◌, subst, ⊎_elim, arith, length-set, Bool, true, false, ◌==◌, eq-eqb, ne_eqb, Option, Some, None}
+use Rattle.std.proofs.Common.{◌≡◌, ◌≢◌, ℕ, ◌<◌, List, ◌∷◌, length, set, refl, sym, ap, ◌∙◌, subst, ⊎_elim, arith, length-set, ◌==◌, eq-eqb, ne_eqb, Option, Some, None}
 use Rattle.std.specs.Prelude.{slice_index, is_some}
 use Rattle.std.proofs.lemmas.Bool.{cases_eq, cond-true, cond-false}
 use lib.Seq.{set-get_or}
@@ -9,10 +9,9 @@ use mathlib.Core.Option.{some}
 use lib.ListN.{get_elem?}
 use Rattle.atomic_table.specs.Table.{State, Me, keeps, takes, gives, put_back, rest, Allows}
 use Rattle.atomic_table.proofs.Lists.{set_else, set_here}
-use Rattle.pin_book.specs.declared.write.Write.{Write}
 use Rattle.pin_core.specs.declared.view.View.{View}
-use Rattle.pin_core.specs.Core.{CoreState, IsReader, number_at, total}
-use Rattle.pin_core.specs.Lawful.{PlacesAtHome, away}
+use Rattle.pin_core.specs.Core.{CoreState, IsReader}
+use Rattle.pin_core.specs.Lawful.{PlacesAtHome}
 use Rattle.pin_core.specs.Step.{MayTakeTurn, MayGive, got_turn, was_refused, gave_turn, take_turn, miss_turn, exchange_turn, give_turn}
 use Rattle.pin_core.specs.Run.{Moves, exchanges, gives_back}
 use Rattle.pin_core.specs.Packing.{packed_turn, place, book_place}
@@ -30,7 +29,7 @@ use Rattle.pin_table.specs.Places.{IsPlaceAt, StandsAtHome, IsBookAt}
 use Rattle.pin_table.specs.Rule.{Kept}
 use Rattle.pin_table.specs.Plays.{ForReader, TurnTaken, TurnMissed, TurnTried, TurnGiven, book_cell}
 use Rattle.pin_table.proofs.FrontLoads.{goes_on}
-use Rattle.pin_table.proofs.StepLemmas.{same_words, turn_written, Known, known, after_step, Steps, lives, reader_inside, plan_here, same_plan, for_step}
+use Rattle.pin_table.proofs.StepLemmas.{same_words, turn_written, Known, known, after_step, Steps, reader_inside, same_plan, for_step}
 
 module _ {P H : Type 0} (home : P → H) (source : P → ℕ) (name_of : H → ℕ → List ℕ) (plan : Plan P) (s : State (Cell P H) (Sitting P)) (h : Kept home source name_of plan s)
     (id number : ℕ) (m : Me (Cell P H) (Sitting P)) (seated : get_elem? s.views id ≡ some m.0) (reader : IsReader number m.0.core) where

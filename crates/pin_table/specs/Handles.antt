@@ -1,8 +1,8 @@
 -- The handles of a reader: what each is of, and where the copies are that they were taken from.
-use Rattle.std.specs.Prelude.{◌≡◌, ℕ, ◌+◌, ◌-◌, ◌/◌, ◌<◌, ◌≤◌, Bool, true, false, nat_lt, List, [], length, take, All, Contains}
+use Rattle.std.specs.Prelude.{◌≡◌, ℕ, ◌+◌, ◌-◌, ◌/◌, ◌<◌, ◌≤◌, Bool, true, false, nat_lt, List, [], ◌∷◌, length, take, All, Contains}
 use Rattle.pin_book.specs.declared.limits.TheConstants.{READER_NUMBERS}
 use Rattle.pin_book.specs.declared.write.Write.{Write}
-use Rattle.pin_book.specs.Replay.{front_slot, front_number, kept_number}
+use Rattle.pin_book.specs.Replay.{front_slot, kept_number}
 use Rattle.pin_core.specs.declared.entry.Entry.{Entry}
 use Rattle.pin_core.specs.declared.view.View.{View}
 use Rattle.pin_core.specs.Core.{IsReader, held_at, one_if, times, total}
@@ -12,7 +12,8 @@ use Rattle.pin_table.specs.declared.shelf.TheConstants.{SHELF_COPIES}
 use Rattle.pin_table.specs.declared.cell.Cell.{Cell}
 use Rattle.pin_table.specs.declared.cell.Cell.TheVariants.{Empty, Place, Desk}
 use Rattle.pin_table.specs.declared.sitting.Plan.{Plan}
-use Rattle.pin_table.specs.Carried.{slots_of}
+use Rattle.pin_table.specs.Carried.{slots_of, Exchanges}
+use Rattle.pin_table.specs.Shelf.{AreOf}
 use Rattle.pin_table.specs.Sources.{source_of}
 
 -- A handle: its version, the version's number, the slot that keeps it, the position at which it was the front, and the
@@ -95,3 +96,24 @@ module _ {P H : Type 0} where
       pub once : (slot : ℕ) → slot < plan.slots → times (place slot number) (slots_of carried) ≡ one_if (nat_lt 0 (held_at slot v))
       pub only : (x : ℕ × Cell P H) → Contains carried x → IsOwnPlace plan number v x
       pub out : total copies_out carried ≡ length v.entries
+
+    -- ---- a copy that goes out of a place, or comes back ----
+
+    -- there is a copy at the place
+    abbrev pub HasCopyAt : ℕ → List (ℕ × Cell P H) → Type 0
+    HasCopyAt at carried = (cell : Cell P H) → Contains carried (at, cell) → (is_place cell ≡ true) × (0 < length (shelf_in cell))
+
+    -- there is room for a copy of this version at the place, and the copies there are of its home and source
+    abbrev pub HasRoomAt : ℕ → P → List (ℕ × Cell P H) → Type 0
+    HasRoomAt at version carried = (cell : Cell P H) → Contains carried (at, cell)
+        → (is_place cell ≡ true) × (length (shelf_in cell) < SHELF_COPIES) × AreOf home source (home version) (source version) (shelf_in cell)
+
+  -- a copy of this version was taken out of the place
+  pub record CopyTaken (at : ℕ) (version : P) (carried carried' : List (ℕ × Cell P H)) : Type 0 where
+    pub others : List P
+    pub is : Exchanges at (Place (version ∷ others)) (Place others) carried carried'
+
+  -- a copy of this version was put back there
+  pub record CopyPut (at : ℕ) (version : P) (carried carried' : List (ℕ × Cell P H)) : Type 0 where
+    pub others : List P
+    pub is : Exchanges at (Place others) (Place (version ∷ others)) carried carried'

@@ -1,9 +1,8 @@
 -- What a call that takes the turn answers, and what its reader then knows. All but a try that finds the turn taken go by
 -- the journal that the turn finds.
-use Rattle.std.specs.Prelude.{◌≡◌, ◌≢◌, ℕ, ◌+◌, ◌<◌, Bool, true, false, not, ◌==◌, if◌then◌else◌, Option, Some, List, length, take, filter, Contains, Result, Ok, Err}
+use Rattle.std.specs.Prelude.{◌≡◌, ◌≢◌, ℕ, ◌+◌, ◌<◌, true, false, not, ◌==◌, if◌then◌else◌, Option, Some, List, length, take, filter, Contains, Result, Ok, Err}
 use Rattle.std.specs.List.{range_with_len}
 use Rattle.pin_book.specs.declared.write.Write.{Write}
-use Rattle.pin_book.specs.declared.write.Change.{Change}
 use Rattle.pin_book.specs.declared.write.Change.TheVariants.{Push, Erase}
 use Rattle.pin_book.specs.Replay.{Edition, state_after, replays, front_number, is_taken, is_listed, greatest_below}
 use Rattle.pin_book.specs.Book.{rows_of}

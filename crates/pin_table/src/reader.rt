@@ -5,7 +5,7 @@ ghost use Rattle.pin_book.specs.declared.limits.TheConstants.{READER_NUMBERS};
 ghost use Rattle.pin_core.specs.Core.{IsReader};
 ghost use Rattle.pin_table.specs.Handles.{HoldsFront};
 ghost use Rattle.pin_table.specs.Position.{IsAfter};
-ghost use Rattle.pin_table.specs.Table.{IsAt};
+ghost use Rattle.pin_table.specs.Table.{IsAt, plan};
 
 use crate::hand::Hand;
 use crate::packing::unpack_front;
@@ -35,7 +35,7 @@ pub struct Reader<'t, P: Payload> {
     pub ghost small: { number < READER_NUMBERS },
     pub ghost reader: { IsReader number hand.seat.me.0.core },
     pub ghost idle: { (hand.seat.me.0.core.turn ≡ false) × (hand.seat.me.0.core.claimed ≡ None) },
-    pub ghost handles: { (e : Entry) → Contains hand.seat.me.0.core.entries e → HoldsFront table.now.slots hand.seat.me.0.core.seen e },
+    pub ghost handles: { (e : Entry) → Contains hand.seat.me.0.core.entries e → HoldsFront (plan table.now).slots hand.seat.me.0.core.seen e },
     ghost allowed: { allowance ≡ hand.seat.me.0.core.allowance },
     ghost position: { IsAfter table.now.slots hand.seat.me.0.core.seen seen },
     ghost pins: { entries.items ≡ hand.seat.me.0.core.entries },

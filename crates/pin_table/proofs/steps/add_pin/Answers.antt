@@ -1,4 +1,4 @@
-use Rattle.std.proofs.Common.{◌∙◌, ◌≡◌, ap, arith, sym, subst}
+use Rattle.std.proofs.Common.{◌∙◌, ap, arith}
 use Rattle.pin_table.specs.Seat.{plan_of}
 use Rattle.pin_table.proofs.PinMoves.{adds_pin}
 use Rattle.pin_table.proofs.steps.add_pin.Goals as goal

@@ -1,6 +1,5 @@
-use Rattle.std.proofs.Common.{◌∙◌, ◌≡◌, ap, arith, sym, subst}
+use Rattle.std.proofs.Common.{◌∙◌, ap, arith}
 use Rattle.pin_table.specs.Seat.{plan_of}
-use Rattle.pin_table.specs.Plays.{PinTaken}
 use Rattle.pin_table.proofs.PinMoves.{takes_pin}
 use Rattle.pin_table.proofs.steps.take_pin_as.Goals as goal
 

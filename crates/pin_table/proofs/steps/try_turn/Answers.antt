@@ -1,4 +1,4 @@
-use Rattle.std.proofs.Common.{◌∙◌, ap, arith}
+use Rattle.std.proofs.Common.{◌∙◌, arith}
 use Rattle.pin_table.specs.Seat.{plan_of}
 use Rattle.pin_table.proofs.TurnMoves.{tries_turn}
 use Rattle.pin_table.proofs.PlayLemmas.{tried_plan}

@@ -1,4 +1,4 @@
-use Rattle.std.proofs.Common.{◌≡◌, ◌<◌, ◌-◌, ◌↔◌, true, false, set, get_or, ◌∙◌, [], refl, ap, sym, subst, arith, length, length-set}
+use Rattle.std.proofs.Common.{◌≡◌, ◌<◌, ◌-◌, ◌↔◌, true, false, set, get_or, ◌∙◌, refl, ap, sym, subst, arith, length, length-set}
 use Rattle.pin_core.specs.Core.{times, has_number}
 use Rattle.pin_core.specs.Step.{left_over, split_off}
 use Rattle.pin_table.specs.Parting.{readers_of_plan}
