@@ -18,3 +18,4 @@ pub mod ExchangeLemmas
 pub mod PlaceLemmas
 pub mod TurnLemmas
 pub mod HandLemmas
+pub mod WriteLemmas

@@ -66,18 +66,17 @@ erase_answer slots journal allowance number =
     else (if allowance == 0 then Err (erase.JournalFull w)
     else Ok record { w = w + 1; gone = greatest_below number listed }))
 
--- what the reader knows after an erase with this answer, once it has given the turn back
-abbrev pub view_after_erase : ℕ → ℕ → List Write → View → Result Erased EraseWhy → View
-view_after_erase by number journal v (Ok erased) =
-    gave_turn (stored record { by = by; seq = length v.own + 1; change = Erase number erased.gone } (got_turn journal v))
-view_after_erase by number journal v (Err why) = gave_turn (got_turn journal v)
+-- what the reader that has the turn knows after an erase with this answer
+abbrev pub view_after_erase : ℕ → ℕ → View → Result Erased EraseWhy → View
+view_after_erase by number v (Ok erased) = stored record { by = by; seq = length v.own + 1; change = Erase number erased.gone } v
+view_after_erase by number v (Err why) = v
 
 -- the erase of the version behind that of this number, by the journal that the turn found
 pub record Erases (slots by number : ℕ) (v v' : View) (answer : Result Erased EraseWhy) : Type 0 where
   pub journal : List Write
   pub found : FindsJournal slots v journal
   pub is : answer ≡ erase_answer slots journal v.allowance number
-  pub view : v' ≡ view_after_erase by number journal v answer
+  pub view : v' ≡ gave_turn (view_after_erase by number (got_turn journal v) answer)
 
 -- the same, or another reader has the turn
 abbrev pub TriesErase : {P : Type 0} → Plan P → ℕ → ℕ → View → View → Result Erased EraseWhy → Type 0

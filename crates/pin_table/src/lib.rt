@@ -27,6 +27,7 @@ mod answers;
 mod cell;
 mod closing;
 mod copies;
+mod erase_calls;
 mod exchange;
 mod hand;
 mod layout;
