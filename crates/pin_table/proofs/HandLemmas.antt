@@ -109,3 +109,9 @@ module _ {P H : Type 0} (home : P → H) (name_of : H → ℕ → List ℕ) (pla
 
   pub turn_seat : (m m1 m2 : Me (Cell P H) (Sitting P)) (book : Chronicle) (held : HoldsBook home name_of plan number m book m1) → TurnGiven m1 m2 → m2 ≡ (knowing (gave_turn (got_turn held.journal m.0.core)) m.0, m.1)
   turn_seat m m1 m2 book held given = given ∙ ap (λ (x : Me (Cell P H) (Sitting P)). (knowing (gave_turn x.0.core) x.0, rest x.1)) held.seat
+
+  -- the same after a step in the turn that changes what the reader knows by f
+  pub step_seat : (f : View → View) (m m1 m2 m3 : Me (Cell P H) (Sitting P)) (book : Chronicle) (held : HoldsBook home name_of plan number m book m1) → m2 ≡ (knowing (f m1.0.core) m1.0, m1.1) → TurnGiven m2 m3
+      → m3 ≡ (knowing (gave_turn (f (got_turn held.journal m.0.core))) m.0, m.1)
+  step_seat f m m1 m2 m3 book held step given = given ∙ (ap (λ (x : Me (Cell P H) (Sitting P)). (knowing (gave_turn x.0.core) x.0, rest x.1)) step
+      ∙ ap (λ (x : Me (Cell P H) (Sitting P)). (knowing (gave_turn (f x.0.core)) x.0, rest x.1)) held.seat)

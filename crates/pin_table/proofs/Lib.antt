@@ -19,3 +19,4 @@ pub mod PlaceLemmas
 pub mod TurnLemmas
 pub mod HandLemmas
 pub mod WriteLemmas
+pub mod EraseLemmas
