@@ -20,3 +20,5 @@ pub mod TurnLemmas
 pub mod HandLemmas
 pub mod WriteLemmas
 pub mod EraseLemmas
+pub mod HandleMoves
+pub mod HandPins

@@ -1,5 +1,5 @@
 -- The places that a reader carries, as it pins, releases and sees more of the journal.
-use Rattle.std.proofs.Common.{◌≡◌, ℕ, zero, suc, ◌≤◌, List, [], ◌∷◌, length, take, sym, refl, ap, ◌∙◌, subst, arith}
+use Rattle.std.proofs.Common.{◌≡◌, ℕ, zero, suc, ◌≤◌, List, [], ◌∷◌, length, take, sym, refl, ap, ◌∙◌, subst, arith, true}
 use Rattle.std.proofs.lemmas.List.{take-take}
 use Rattle.std.specs.List.{Contains, All}
 use Rattle.pin_book.specs.declared.write.Write.{Write}
@@ -9,10 +9,11 @@ use Rattle.pin_core.specs.declared.view.View.{View}
 use Rattle.pin_core.specs.Core.{held_at, total}
 use Rattle.pin_core.specs.Lawful.{entry_number}
 use Rattle.pin_table.specs.declared.cell.Cell.{Cell}
+use Rattle.pin_table.specs.declared.cell.Cell.TheVariants.{Empty, Place, Desk}
 use Rattle.pin_table.specs.declared.sitting.Plan.{Plan}
 use Rattle.pin_table.specs.Sources.{source_of}
 use Rattle.pin_table.specs.Plays.{GoesOn}
-use Rattle.pin_table.specs.Handles.{HoldsFront, IsOf, IsShelfAt, IsOwnPlace, CarriesPlaces, shelf_in, slot_of, copies_out}
+use Rattle.pin_table.specs.Handles.{HoldsFront, IsOf, IsShelfAt, IsOwnPlace, CarriesPlaces, is_place, shelf_in, slot_of, copies_out}
 
 -- a front part of what was seen stays
 pub take_seen : (n : ℕ) (seen later : List Write) → n ≤ length seen → take (length seen) later ≡ seen → take n later ≡ take n seen
@@ -41,6 +42,12 @@ holds_later slots seen later e h grows kept = record {
 pub all_hold : (slots room number : ℕ) (v : View) (journal : List Write) → GoesOn slots room number v journal → ((e : Entry) → Contains v.entries e → HoldsFront slots v.seen e)
     → (e : Entry) → Contains v.entries e → HoldsFront slots journal e
 all_hold slots room number v journal goes h e among = let mine = h e among in holds_later slots v.seen journal e mine goes.grows (goes.handles e among mine.held)
+
+-- what is a place holds a shelf
+pub place_is : {P H : Type 0} (cell : Cell P H) → is_place cell ≡ true → cell ≡ Place (shelf_in cell)
+place_is Empty other = absurd (cc)
+place_is (Place shelf) is = refl
+place_is (Desk book) other = absurd (cc)
 
 module _ {P H : Type 0} (home : P → H) (source : P → ℕ) (plan : Plan P) (number : ℕ) where
   -- ---- more of the journal is seen ----

@@ -1,13 +1,18 @@
 -- The handles of a reader: what each is of, and where the copies are that they were taken from.
-use Rattle.std.specs.Prelude.{◌≡◌, ℕ, ◌+◌, ◌-◌, ◌/◌, ◌<◌, ◌≤◌, Bool, true, false, nat_lt, List, [], ◌∷◌, length, take, All, Contains}
+use Rattle.std.specs.Prelude.{◌≡◌, ℕ, ◌+◌, ◌-◌, ◌/◌, ◌%◌, ◌^◌, ◌<◌, ◌≤◌, Bool, true, false, nat_lt, List, [], ◌∷◌, length, take, All, Contains}
 use Rattle.pin_book.specs.declared.limits.TheConstants.{READER_NUMBERS}
 use Rattle.pin_book.specs.declared.write.Write.{Write}
-use Rattle.pin_book.specs.Replay.{front_slot, kept_number}
+use Rattle.pin_book.specs.Replay.{front_slot, front_number, kept_number}
 use Rattle.pin_core.specs.declared.entry.Entry.{Entry}
 use Rattle.pin_core.specs.declared.view.View.{View}
 use Rattle.pin_core.specs.Core.{IsReader, held_at, one_if, times, total}
 use Rattle.pin_core.specs.Lawful.{entry_number}
 use Rattle.pin_core.specs.Packing.{place}
+use Rattle.pin_core.specs.Step.{loaded, pinned}
+use Rattle.atomic_table.specs.Table.{Me}
+use Rattle.pin_table.specs.declared.sitting.Sitting.{Sitting}
+use Rattle.pin_table.specs.Seat.{knowing}
+use Rattle.pin_table.specs.Plays.{GoesOn}
 use Rattle.pin_table.specs.declared.shelf.TheConstants.{SHELF_COPIES}
 use Rattle.pin_table.specs.declared.cell.Cell.{Cell}
 use Rattle.pin_table.specs.declared.cell.Cell.TheVariants.{Empty, Place, Desk}
@@ -37,6 +42,10 @@ pub record HoldsFront (slots : ℕ) (seen : List Write) (e : Entry) : Type 0 whe
   pub slot : e.slot ≡ front_slot slots (take e.position seen)
   pub inside : e.slot < slots
   pub kept : kept_number slots seen e.slot ≡ entry_number slots seen e
+
+-- each pin of the reader holds a front
+abbrev pub AreAllHeld : ℕ → View → Type 0
+AreAllHeld slots v = (e : Entry) → Contains v.entries e → HoldsFront slots v.seen e
 
 -- the source of the version that the pin holds
 abbrev pub entry_source : ℕ → List Write → Entry → ℕ
@@ -99,14 +108,14 @@ module _ {P H : Type 0} where
 
     -- ---- a copy that goes out of a place, or comes back ----
 
-    -- there is a copy at the place
-    abbrev pub HasCopyAt : ℕ → List (ℕ × Cell P H) → Type 0
-    HasCopyAt at carried = (cell : Cell P H) → Contains carried (at, cell) → (is_place cell ≡ true) × (0 < length (shelf_in cell))
-
     -- there is room for a copy of this version at the place, and the copies there are of its home and source
     abbrev pub HasRoomAt : ℕ → P → List (ℕ × Cell P H) → Type 0
     HasRoomAt at version carried = (cell : Cell P H) → Contains carried (at, cell)
         → (is_place cell ≡ true) × (length (shelf_in cell) < SHELF_COPIES) × AreOf home source (home version) (source version) (shelf_in cell)
+
+  -- there is a copy at the place
+  abbrev pub HasCopyAt : ℕ → List (ℕ × Cell P H) → Type 0
+  HasCopyAt at carried = (cell : Cell P H) → Contains carried (at, cell) → (is_place cell ≡ true) × (0 < length (shelf_in cell))
 
   -- a copy of this version was taken out of the place
   pub record CopyTaken (at : ℕ) (version : P) (carried carried' : List (ℕ × Cell P H)) : Type 0 where
@@ -117,3 +126,19 @@ module _ {P H : Type 0} where
   pub record CopyPut (at : ℕ) (version : P) (carried carried' : List (ℕ × Cell P H)) : Type 0 where
     pub others : List P
     pub is : Exchanges at (Place others) (Place (version ∷ others)) carried carried'
+
+  -- a pin was added that holds the front which the reader had seen last, and a copy of its version was taken
+  pub record PinHeld (home : P → H) (source : P → ℕ) (plan : Plan P) (m : Me (Cell P H) (Sitting P)) (version : P) (m' : Me (Cell P H) (Sitting P)) : Type 0 where
+    pub view : m'.0 ≡ knowing (pinned plan.slots (front_number plan.slots m.0.core.seen) m.0.core) m.0
+    pub copy : IsOf home source (home plan.first) (source_of m.0.core.seen (front_number plan.slots m.0.core.seen)) version
+
+  -- A pin was added and taken off again, for the front was another by then. The front word that was loaded in between
+  -- shows the front after more writes.
+  pub record PinMissed (plan : Plan P) (number : ℕ) (m : Me (Cell P H) (Sitting P)) (found : ℕ) (m' : Me (Cell P H) (Sitting P)) : Type 0 where
+    pub journal : List Write
+    pub view : m'.0 ≡ knowing (record (loaded journal m.0.core) { pins = m.0.core.pins + 1 }) m.0
+    pub goes_on : GoesOn plan.slots plan.room number m.0.core journal
+    pub later : length m.0.core.seen < length journal
+    pub w : found / 2 ^ 32 ≡ length journal
+    pub n : found / 2 ^ 6 % 2 ^ 26 ≡ front_number plan.slots journal
+    pub slot : found % 2 ^ 6 ≡ front_slot plan.slots journal

@@ -19,4 +19,5 @@ pub mod Idle
 pub mod BookHeld
 pub mod Turns
 pub mod Reader
+pub mod Pins
 pub mod Numbers

@@ -38,6 +38,7 @@ mod opening;
 mod packing;
 mod parting;
 mod pinned;
+mod pins;
 mod plays;
 mod position;
 mod reader;

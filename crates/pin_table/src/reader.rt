@@ -1,9 +1,8 @@
 //! A reader: what a thread works on the list with.
-ghost use Rattle.std.specs.Prelude.{◌≡◌, ◌<◌, false, None, Contains};
-ghost use Rattle.pin_core.specs.declared.entry.Entry.{Entry};
+ghost use Rattle.std.specs.Prelude.{◌≡◌, ◌<◌, false, None};
 ghost use Rattle.pin_book.specs.declared.limits.TheConstants.{READER_NUMBERS};
 ghost use Rattle.pin_core.specs.Core.{IsReader};
-ghost use Rattle.pin_table.specs.Handles.{HoldsFront};
+ghost use Rattle.pin_table.specs.Handles.{AreAllHeld};
 ghost use Rattle.pin_table.specs.Position.{IsAfter};
 ghost use Rattle.pin_table.specs.Table.{IsAt, plan};
 
@@ -11,7 +10,6 @@ use crate::hand::Hand;
 use crate::packing::unpack_front;
 use crate::position::Position;
 use crate::shelf::SHELF_COPIES;
-use crate::steps::load_front;
 use crate::table::PinTable;
 use arrayvec::ArrayVec;
 use pin_book::Payload;
@@ -35,7 +33,7 @@ pub struct Reader<'t, P: Payload> {
     pub ghost small: { number < READER_NUMBERS },
     pub ghost reader: { IsReader number hand.seat.me.0.core },
     pub ghost idle: { (hand.seat.me.0.core.turn ≡ false) × (hand.seat.me.0.core.claimed ≡ None) },
-    pub ghost handles: { (e : Entry) → Contains hand.seat.me.0.core.entries e → HoldsFront (plan table.now).slots hand.seat.me.0.core.seen e },
+    pub ghost handles: { AreAllHeld (plan table.now).slots hand.seat.me.0.core },
     ghost allowed: { allowance ≡ hand.seat.me.0.core.allowance },
     ghost position: { IsAfter table.now.slots hand.seat.me.0.core.seen seen },
     ghost pins: { entries.items ≡ hand.seat.me.0.core.entries },
@@ -48,7 +46,7 @@ impl<'t, P: Payload> Reader<'t, P> {
     pub fn look(&mut self) -> Position
         ensures { Looks self.old self.new result }
     {
-        let found = load_front(self.table, &mut self.hand.seat, self.number);
+        let found = self.hand.load(self.table, self.number);
         self.seen = unpack_front(found);
         self.seen
     }
