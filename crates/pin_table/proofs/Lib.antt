@@ -20,5 +20,6 @@ pub mod TurnLemmas
 pub mod HandLemmas
 pub mod WriteLemmas
 pub mod EraseLemmas
+pub mod SlotLemmas
 pub mod HandleMoves
 pub mod HandPins

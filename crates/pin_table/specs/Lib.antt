@@ -18,6 +18,7 @@ pub mod Handles
 pub mod Idle
 pub mod BookHeld
 pub mod Turns
+pub mod Claims
 pub mod Reader
 pub mod Pins
 pub mod Numbers

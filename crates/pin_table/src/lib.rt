@@ -41,10 +41,12 @@ mod pinned;
 mod pins;
 mod plays;
 mod position;
+mod push_calls;
 mod reader;
 mod rule;
 mod shelf;
 mod sitting;
+mod slot_claims;
 mod steps;
 mod table;
 #[cfg(test)]
