@@ -40,6 +40,7 @@ goes_on plan s id number v sizes run k =
       handles = λ e among held. let was = All-contains (WasFront s.slots s.journal s.floor (length v.seen)) v.entries e places.entries among in let early = was.told in let within = part.0 in
           ap (λ (l : List Write). kept_number s.slots l e.slot) (sym (take_all (length s.journal) s.journal (omega arith))) ∙ keeps_slot s k.lawful id number v k.has e among held (length s.journal) (omega arith) (omega arith);
       strays = strays_old plan.slots plan.readers plan.room s id v (let least = sizes.some_slots in omega arith) run k.has.here;
+      few = (let most = k.lawful.few id v k.has.here (lives plan s id number v k) in let one = ap (λ (l : List ℕ). length l) k.has.reader.1 in omega arith);
     }
 
 module _ {P H : Type 0} (home : P → H) (source : P → ℕ) (name_of : H → ℕ → List ℕ) where

@@ -16,6 +16,11 @@ pub mod RunLemmas
 pub mod PlayLemmas
 pub mod ExchangeLemmas
 pub mod PlaceLemmas
+pub mod TurnLemmas
+pub mod HandLemmas
+pub mod WriteLemmas
+pub mod EraseLemmas
+pub mod SlotLemmas
 pub mod HandleMoves
 pub mod HandPins
 pub mod HandReleases

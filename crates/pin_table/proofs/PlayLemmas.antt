@@ -24,7 +24,7 @@ module _ {P H : Type 0} where
   pub claim_plan : (plan : Plan P) (slot : ℕ) (m : Me (Cell P H) (Sitting P)) (found : ℕ) (m' : Me (Cell P H) (Sitting P)) → SlotTried plan slot m found m' → SamePlan m m'
   claim_plan plan slot m found m' told = ⊎_elim
       (λ (won : found ≡ unpinned_word plan.slots m.0.core.seen slot). ap (λ (x : Me (Cell P H) (Sitting P)). x.0.plan) (told.won won).seat)
-      (λ (lost : found ≢ unpinned_word plan.slots m.0.core.seen slot). ap (λ (x : Me (Cell P H) (Sitting P)). x.0.plan) (told.lost lost))
+      (λ (lost : found ≢ unpinned_word plan.slots m.0.core.seen slot). ap (λ (x : Me (Cell P H) (Sitting P)). x.0.plan) (told.lost lost).seat)
       (cases_eq found (unpinned_word plan.slots m.0.core.seen slot))
 
   -- a push of a stocked run, by its parts

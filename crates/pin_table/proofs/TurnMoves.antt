@@ -29,7 +29,7 @@ use Rattle.pin_table.specs.Places.{IsPlaceAt, StandsAtHome, IsBookAt}
 use Rattle.pin_table.specs.Rule.{Kept}
 use Rattle.pin_table.specs.Plays.{ForReader, TurnTaken, TurnMissed, TurnTried, TurnGiven, book_cell}
 use Rattle.pin_table.proofs.FrontLoads.{goes_on}
-use Rattle.pin_table.proofs.StepLemmas.{same_words, turn_written, Known, known, after_step, Steps, same_plan, for_step}
+use Rattle.pin_table.proofs.StepLemmas.{same_words, turn_written, Known, known, after_step, Steps, reader_inside, same_plan, for_step}
 
 module _ {P H : Type 0} (home : P → H) (source : P → ℕ) (name_of : H → ℕ → List ℕ) (plan : Plan P) (s : State (Cell P H) (Sitting P)) (h : Kept home source name_of plan s)
     (id number : ℕ) (m : Me (Cell P H) (Sitting P)) (seated : get_elem? s.views id ≡ some m.0) (reader : IsReader number m.0.core) where
@@ -130,6 +130,8 @@ module _ {P H : Type 0} (home : P → H) (source : P → ℕ) (name_of : H → �
         named = h.words.turn ∙ ap packed_turn turn_is;
         other = holder_other core id number holder v k.lawful k.has may.idle turn_is;
         inside = (let readers = k.readers in let low = (holder_out core holder k.lawful turn_is).4 in omega arith);
+        several = (let readers = k.readers in let low = (holder_out core holder k.lawful turn_is).4 in let mine = reader_inside plan core id number v k in
+            let other = holder_other core id number holder v k.lawful k.has may.idle turn_is in omega arith);
       }
 
     pub tries_at : Steps (Kept home source name_of plan) s id m TURN_WORD (λ n. either (n == packed_turn None) new n) (λ n m'. TurnTried home name_of plan number m n m')

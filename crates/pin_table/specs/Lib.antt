@@ -15,7 +15,10 @@ pub mod Main
 pub mod Parting
 pub mod Closing
 pub mod Handles
+pub mod Idle
+pub mod BookHeld
 pub mod Turns
+pub mod Claims
 pub mod Reader
 pub mod Pins
 pub mod Numbers

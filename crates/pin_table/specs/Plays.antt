@@ -11,8 +11,8 @@ use Rattle.pin_book.specs.Sequence.{writes_by}
 use Rattle.pin_book.specs.Replay.{front_number, front_slot, kept_number, is_taken, replays, state_after, allowed}
 use Rattle.pin_core.specs.declared.entry.Entry.{Entry}
 use Rattle.pin_core.specs.declared.view.View.{View}
-use Rattle.pin_core.specs.Core.{IsReader, held_at}
-use Rattle.pin_core.specs.Lawful.{entry_number}
+use Rattle.pin_core.specs.Core.{IsReader, held_at, pins_at}
+use Rattle.pin_core.specs.Lawful.{entry_number, WasFrontOnce}
 use Rattle.pin_core.specs.Step.{loaded, pinned, unpinned, got_turn, was_refused, gave_turn, stored, claiming, found_pinned, HasClaimed, front_after}
 use Rattle.pin_core.specs.Packing.{place, book_place, packed_slot, packed_front, packed_turn}
 use Rattle.pin_table.specs.declared.cell.Cell.{Cell}
@@ -30,7 +30,8 @@ ForReader {P} v fact = (plan : Plan P) (number : ℕ) → v.plan ≡ Some plan �
 
 -- What holds of the journal at a step of this reader: it goes on from what the reader has seen, it replays, and has room
 -- for what the reader may still write. The reader's own writes are its own part of it. Each slot where the reader has a
--- handle keeps the handle's number after it, and each of its strays is older than the last write.
+-- handle keeps the handle's number after it, and each of its strays is older than the last write. The reader has eight
+-- pins at most.
 pub record GoesOn (slots room number : ℕ) (v : View) (journal : List Write) : Type 0 where
   pub grows : take (length v.seen) journal ≡ v.seen
   pub replay : replays slots journal ≡ true
@@ -38,6 +39,7 @@ pub record GoesOn (slots room number : ℕ) (v : View) (journal : List Write) : 
   pub own : writes_by number journal ≡ v.own
   pub handles : (e : Entry) → Contains v.entries e → e.held ≡ true → kept_number slots journal e.slot ≡ entry_number slots journal e
   pub strays : (e : Entry) → Contains v.entries e → e.held ≡ false → e.position < length journal
+  pub few : length v.entries ≤ 8
 
 -- the word of a slot that no pin is at, with the number that the slot keeps after this journal
 abbrev pub unpinned_word : ℕ → List Write → ℕ → ℕ
@@ -83,13 +85,14 @@ module _ {P H : Type 0} where
     pub slot : found % 2 ^ 6 ≡ front_slot plan.slots journal
     pub inside : front_slot plan.slots journal < plan.slots
 
-  -- another reader has the turn
+  -- another reader has the turn, so there is more than one
   pub record TurnMissed (plan : Plan P) (number : ℕ) (m : Me (Cell P H) (Sitting P)) (found : ℕ) (m' : Me (Cell P H) (Sitting P)) : Type 0 where
     pub holder : ℕ
     pub seat : m' ≡ (knowing (was_refused (Some holder) m.0.core) m.0, m.1)
     pub named : found ≡ packed_turn (Some holder)
     pub other : holder ≢ number
     pub inside : holder < plan.readers
+    pub several : 1 < plan.readers
 
   module _ (home : P → H) (source : P → ℕ) where
     -- the seat has taken a place, which is stocked with the version of this number
@@ -147,17 +150,24 @@ module _ {P H : Type 0} where
   abbrev pub EraseStored : Write → Me (Cell P H) (Sitting P) → Me (Cell P H) (Sitting P) → Type 0
   EraseStored write m m' = m' ≡ (knowing (stored write m.0.core) m.0, m.1)
 
-  -- the seat has all places of this slot, which it has claimed
+  -- the seat has all places of this slot, which it has claimed, and the reader has no handle there
   pub record SlotClaimed (plan : Plan P) (slot : ℕ) (m m' : Me (Cell P H) (Sitting P)) : Type 0 where
     pub cells : List (Cell P H)
     pub many : length cells ≡ plan.readers
     pub seat : m' ≡ (knowing (claiming slot m.0.core) m.0, run_from (place slot 0) cells ++ m.1)
+    pub free : held_at slot m.0.core ≡ 0
+
+  -- The slot was found pinned. It was the front's once, not before the floor. In a table of one reader the pin is its own.
+  pub record SlotPinned (plan : Plan P) (slot : ℕ) (m m' : Me (Cell P H) (Sitting P)) : Type 0 where
+    pub seat : m' ≡ (knowing (found_pinned slot m.0.core) m.0, m.1)
+    pub once : WasFrontOnce plan.slots m.0.core.seen m.0.core.floor (length m.0.core.seen) slot
+    pub alone : plan.readers ≡ 1 → 0 < pins_at slot m.0.core
 
   -- An exchange of the slot's word from the number that the slot keeps and no pin claims the slot where it finds that, and
   -- else finds the slot pinned.
   pub record SlotTried (plan : Plan P) (slot : ℕ) (m : Me (Cell P H) (Sitting P)) (found : ℕ) (m' : Me (Cell P H) (Sitting P)) : Type 0 where
     pub won : found ≡ unpinned_word plan.slots m.0.core.seen slot → SlotClaimed plan slot m m'
-    pub lost : found ≢ unpinned_word plan.slots m.0.core.seen slot → m' ≡ (knowing (found_pinned slot m.0.core) m.0, m.1)
+    pub lost : found ≢ unpinned_word plan.slots m.0.core.seen slot → SlotPinned plan slot m m'
 
   -- the front word after a push was stored, and the places of its slot, which the seat had taken last, were given back
   abbrev pub PushStored : Plan P → Write → Me (Cell P H) (Sitting P) → Me (Cell P H) (Sitting P) → Type 0

@@ -9,7 +9,7 @@ use Rattle.pin_book.specs.Book.{rows_of}
 use Rattle.pin_core.specs.declared.view.View.{View}
 use Rattle.pin_core.specs.Core.{held_at}
 use Rattle.pin_core.specs.Lawful.{WasFrontOnce}
-use Rattle.pin_core.specs.Step.{was_refused, got_turn, gave_turn, stored}
+use Rattle.pin_core.specs.Step.{was_refused, got_turn, gave_turn, stored, claiming}
 use Rattle.pin_table.specs.declared.answers.Listing.{Listing}
 use Rattle.pin_table.specs.declared.answers.Erased.{Erased}
 use Rattle.pin_table.specs.declared.answers.EraseWhy.{EraseWhy}
@@ -66,18 +66,17 @@ erase_answer slots journal allowance number =
     else (if allowance == 0 then Err (erase.JournalFull w)
     else Ok record { w = w + 1; gone = greatest_below number listed }))
 
--- what the reader knows after an erase with this answer, once it has given the turn back
-abbrev pub view_after_erase : ℕ → ℕ → List Write → View → Result Erased EraseWhy → View
-view_after_erase by number journal v (Ok erased) =
-    gave_turn (stored record { by = by; seq = length v.own + 1; change = Erase number erased.gone } (got_turn journal v))
-view_after_erase by number journal v (Err why) = gave_turn (got_turn journal v)
+-- what the reader that has the turn knows after an erase with this answer
+abbrev pub view_after_erase : ℕ → ℕ → View → Result Erased EraseWhy → View
+view_after_erase by number v (Ok erased) = stored record { by = by; seq = length v.own + 1; change = Erase number erased.gone } v
+view_after_erase by number v (Err why) = v
 
 -- the erase of the version behind that of this number, by the journal that the turn found
 pub record Erases (slots by number : ℕ) (v v' : View) (answer : Result Erased EraseWhy) : Type 0 where
   pub journal : List Write
   pub found : FindsJournal slots v journal
   pub is : answer ≡ erase_answer slots journal v.allowance number
-  pub view : v' ≡ view_after_erase by number journal v answer
+  pub view : v' ≡ gave_turn (view_after_erase by number (got_turn journal v) answer)
 
 -- the same, or another reader has the turn
 abbrev pub TriesErase : {P : Type 0} → Plan P → ℕ → ℕ → View → View → Result Erased EraseWhy → Type 0
@@ -93,15 +92,15 @@ TriesErase plan by number v v' (Ok erased) = Erases plan.slots by number v v' (O
 abbrev pub unlisted_below : ℕ → List Write → ℕ → List ℕ
 unlisted_below slots journal slot = filter (λ other. not (is_taken slots journal other)) (range_with_len 0 slot)
 
--- the reader has the turn, and its claims have found these slots pinned
-abbrev pub finding : List Write → List ℕ → View → View
-finding journal pinned v = record (got_turn journal v) { pinned = pinned }
+-- Of a reader that has the turn: its claims of all unlisted slots below this one found them pinned. Each was the front's
+-- slot once, not before the floor. In a table of one reader that reader has a handle at each.
+pub record FoundPinned (slots readers : ℕ) (v : View) (slot : ℕ) : Type 0 where
+  pub fronts : (other : ℕ) → Contains (unlisted_below slots v.seen slot) other → WasFrontOnce slots v.seen v.floor (length v.seen) other
+  pub alone : readers ≡ 1 → (other : ℕ) → Contains (unlisted_below slots v.seen slot) other → 0 < held_at other v
 
--- The claims of all unlisted slots below this one found them pinned. Each was the front's slot once, not before the floor.
--- In a table of one reader it has a handle at each.
-pub record FoundPinned (slots readers : ℕ) (v : View) (journal : List Write) (slot : ℕ) : Type 0 where
-  pub fronts : (other : ℕ) → Contains (unlisted_below slots journal slot) other → WasFrontOnce slots journal v.floor (length journal) other
-  pub alone : readers ≡ 1 → (other : ℕ) → Contains (unlisted_below slots journal slot) other → 0 < held_at other v
+-- what the reader then knows
+abbrev pub finding : ℕ → ℕ → View → View
+finding slots slot v = record v { pinned = unlisted_below slots v.seen slot }
 
 module _ {P H : Type 0} (home : P → H) (source : P → ℕ) (name_of : H → ℕ → List ℕ) where
   -- what a version of the table is called
@@ -112,59 +111,62 @@ module _ {P H : Type 0} (home : P → H) (source : P → ℕ) (name_of : H → �
   abbrev pub front_name : Plan P → List Write → List ℕ
   front_name plan journal = name_of (home plan.first) (source_of journal (front_number plan.slots journal))
 
+  -- What follows is of a reader that has the turn, with what it knows when it has got it and before it gives it back.
+
   -- the front has the version's name
   pub record PushesSame (plan : Plan P) (v v' : View) (version : P) (w n : ℕ) : Type 0 where
-    pub journal : List Write
-    pub found : FindsJournal plan.slots v journal
-    pub same : version_name version ≡ front_name plan journal
-    pub is_w : w ≡ length journal
-    pub is_n : n ≡ front_number plan.slots journal
-    pub view : v' ≡ gave_turn (got_turn journal v)
+    pub same : version_name version ≡ front_name plan v.seen
+    pub is_w : w ≡ length v.seen
+    pub is_n : n ≡ front_number plan.slots v.seen
+    pub view : v' ≡ v
 
   -- it hasn't, and the reader may make no write
   pub record PushesTooMany (plan : Plan P) (v v' : View) (version : P) (w : ℕ) : Type 0 where
-    pub journal : List Write
-    pub found : FindsJournal plan.slots v journal
-    pub other : version_name version ≢ front_name plan journal
-    pub none : v.allowance ≡ 0
-    pub is_w : w ≡ length journal
-    pub view : v' ≡ gave_turn (got_turn journal v)
+    pub other : version_name version ≢ front_name plan v.seen
+    pub no_write : v.allowance ≡ 0
+    pub is_w : w ≡ length v.seen
+    pub view : v' ≡ v
 
   -- it may, and each slot is listed or was found pinned
   pub record PushesIntoFull (plan : Plan P) (v v' : View) (version : P) (w : ℕ) : Type 0 where
-    pub journal : List Write
-    pub found : FindsJournal plan.slots v journal
-    pub other : version_name version ≢ front_name plan journal
-    pub some : 0 < v.allowance
-    pub pinned : FoundPinned plan.slots plan.readers v journal plan.slots
-    pub is_w : w ≡ length journal
-    pub view : v' ≡ gave_turn (finding journal (unlisted_below plan.slots journal plan.slots) v)
+    pub other : version_name version ≢ front_name plan v.seen
+    pub some_write : 0 < v.allowance
+    pub pinned : FoundPinned plan.slots plan.readers v plan.slots
+    pub is_w : w ≡ length v.seen
+    pub view : v' ≡ finding plan.slots plan.slots v
 
   -- the version went into the least unlisted slot that wasn't found pinned, in which the reader has no handle
   pub record PushesVersion (plan : Plan P) (by : ℕ) (v v' : View) (version : P) (pushed : Pushed) : Type 0 where
+    pub other : version_name version ≢ front_name plan v.seen
+    pub some_write : 0 < v.allowance
+    pub pinned : FoundPinned plan.slots plan.readers v pushed.slot
+    pub inside : pushed.slot < plan.slots
+    pub unlisted : is_taken plan.slots v.seen pushed.slot ≡ false
+    pub free : held_at pushed.slot v ≡ 0
+    pub is_w : pushed.w ≡ length v.seen + 1
+    pub is_n : pushed.n ≡ front_number plan.slots v.seen + 1
+    pub view : v' ≡ stored record { by = by; seq = length v.own + 1; change = Push pushed.n (source version) pushed.slot }
+        (claiming pushed.slot (finding plan.slots pushed.slot v))
+
+  -- what a push answers by the journal that its turn found
+  abbrev pub PushAnswers : Plan P → ℕ → View → View → P → Result Pushed PushWhy → Type 0
+  PushAnswers plan by v v' version (Ok pushed) = PushesVersion plan by v v' version pushed
+  PushAnswers plan by v v' version (Err (push.Busy holder)) = ⊥
+  PushAnswers plan by v v' version (Err (push.Same w n)) = PushesSame plan v v' version w n
+  PushAnswers plan by v v' version (Err (push.JournalFull w)) = PushesTooMany plan v v' version w
+  PushAnswers plan by v v' version (Err (push.Full w)) = PushesIntoFull plan v v' version w
+
+  -- the push of this version in a turn, from before the turn until after it
+  pub record Pushes (plan : Plan P) (by : ℕ) (v v' : View) (version : P) (answer : Result Pushed PushWhy) : Type 0 where
     pub journal : List Write
     pub found : FindsJournal plan.slots v journal
-    pub other : version_name version ≢ front_name plan journal
-    pub some : 0 < v.allowance
-    pub pinned : FoundPinned plan.slots plan.readers v journal pushed.slot
-    pub inside : pushed.slot < plan.slots
-    pub unlisted : is_taken plan.slots journal pushed.slot ≡ false
-    pub free : held_at pushed.slot v ≡ 0
-    pub is_w : pushed.w ≡ length journal + 1
-    pub is_n : pushed.n ≡ front_number plan.slots journal + 1
-    pub view : v' ≡ gave_turn (stored record { by = by; seq = length v.own + 1; change = Push pushed.n (source version) pushed.slot }
-        (record (finding journal (unlisted_below plan.slots journal pushed.slot) v) { claimed = Some pushed.slot }))
+    pub after : View
+    pub is : PushAnswers plan by (got_turn journal v) after version answer
+    pub view : v' ≡ gave_turn after
 
-  -- why a push is refused, but for another reader's turn
-  abbrev pub RefusesPush : Plan P → View → View → P → PushWhy → Type 0
-  RefusesPush plan v v' version (push.Busy holder) = ⊥
-  RefusesPush plan v v' version (push.Same w n) = PushesSame plan v v' version w n
-  RefusesPush plan v v' version (push.JournalFull w) = PushesTooMany plan v v' version w
-  RefusesPush plan v v' version (push.Full w) = PushesIntoFull plan v v' version w
-
-  -- the same, or another reader has the turn
-  abbrev pub TriesPush : Plan P → ℕ → View → View → P → PushWhy → Type 0
-  TriesPush plan by v v' version (push.Busy holder) = MeetsTurn plan by v v' holder
-  TriesPush plan by v v' version (push.Same w n) = RefusesPush plan v v' version (push.Same w n)
-  TriesPush plan by v v' version (push.JournalFull w) = RefusesPush plan v v' version (push.JournalFull w)
-  TriesPush plan by v v' version (push.Full w) = RefusesPush plan v v' version (push.Full w)
+  -- the push is refused, or another reader has the turn
+  abbrev pub RefusesPush : Plan P → ℕ → View → View → P → PushWhy → Type 0
+  RefusesPush plan by v v' version (push.Busy holder) = MeetsTurn plan by v v' holder
+  RefusesPush plan by v v' version (push.Same w n) = Pushes plan by v v' version (Err (push.Same w n))
+  RefusesPush plan by v v' version (push.JournalFull w) = Pushes plan by v v' version (Err (push.JournalFull w))
+  RefusesPush plan by v v' version (push.Full w) = Pushes plan by v v' version (Err (push.Full w))

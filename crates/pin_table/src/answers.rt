@@ -53,7 +53,10 @@ pub enum EraseWhy {
 }
 
 impl From<Busy> for EraseWhy {
+    ghost use Rattle.std.specs.Prelude.{◌≡◌};
     ghost use Rattle.pin_table.specs.declared.answers.EraseWhy.TheVariants as erase;
+
+    ghost from_gives = { λ busy why. why ≡ erase.Busy busy.holder };
 
     fn from(busy: Busy) -> Self {
         EraseWhy::Busy {

@@ -27,9 +27,11 @@ mod answers;
 mod cell;
 mod closing;
 mod copies;
+mod erase_calls;
 mod exchange;
 mod hand;
 mod layout;
+mod listing_calls;
 mod main_seat;
 mod no_reader;
 mod opening;
@@ -39,17 +41,21 @@ mod pinned;
 mod pins;
 mod plays;
 mod position;
+mod push_calls;
 mod reader;
 mod rule;
 mod shelf;
 mod sitting;
+mod slot_claims;
 mod steps;
 mod table;
 #[cfg(test)]
 mod tests;
+mod turns;
 
 pub use answers::{
-    Busy, EraseWhy, Erased, Listing, MOST_ROWS, PushRefused, PushWhy, Pushed, Released, TooManyHandles,
+    Busy, EraseWhy, Erased, Listing, MOST_ROWS, PushRefused, PushWhy, Pushed, Released,
+    TooManyHandles,
 };
 pub use cell::Cell;
 pub use copies::Copies;

@@ -1,0 +1,1 @@
+//! The calls of a reader that push a version.
