@@ -9,10 +9,9 @@ ghost use Rattle.tz_lines.specs.Refusal.{MeansLineFault, MeansLeapFault, MeansRe
 use crate::error::{LineError, ReadError};
 use crate::leap_contents::{LeapContents, WrittenExpiry, WrittenLeap};
 use crate::leap_faults::least_leap_fault;
-use crate::next_line::next_line;
 use std::alloc::Global;
 use tz_records::read_leap_line;
-use tz_text::Joined;
+use tz_text::{Joined, next_line};
 use tz_types::{Cause, Items, LeapEntry, Leaps, LineFault, NoMemory};
 
 /// Reads one more line of a leap text.

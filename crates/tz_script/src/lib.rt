@@ -35,7 +35,6 @@ mod keyword;
 mod laws;
 mod limit;
 mod line;
-mod lines;
 mod op_reader;
 mod operand;
 mod operation;
