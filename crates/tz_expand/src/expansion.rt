@@ -9,11 +9,10 @@ ghost use Rattle.tz_expand.specs.Looks.{AreLooksOf};
 ghost use Rattle.tz_expand.specs.Stretch.{IsStretch, TouchesYears, meets, line_meets, ranges_between, lines_between};
 
 use crate::looks::{instant_at, looks_near};
-use crate::occurrence::Occurrence;
 use crate::{CompiledLine, CompiledRules, CompiledZone};
 use std::alloc::Global;
 use std::sync::ledger::Ledger;
-use tz_rules::InForce;
+use tz_rules::{InForce, Occurrence};
 use tz_types::{NoMemory, RuleSet, Steps, SysInfo};
 
 /// Puts the ranges of a line that meet the stretch behind those of later lines, the last of them first. The list has

@@ -24,7 +24,6 @@ mod expansion;
 mod info;
 mod laws;
 mod looks;
-mod occurrence;
 mod range;
 mod years;
 
