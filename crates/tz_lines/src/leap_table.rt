@@ -111,14 +111,8 @@ fn leaps_of(alloc: Global, text: &[u8]) -> Result<Leaps, LineError>
     ensures ok { IfOk result (λ leaps. ReadsLeaps text.now leaps) }
     ensures refused { IfErr result (λ e. MeansLeapFault e text.now) }
 {
-    let contents = match take_lines(alloc, text) {
-        Ok(contents) => contents,
-        Err(error) => return Err(error),
-    };
-    match table(alloc, contents) {
-        Ok(leaps) => Ok(leaps),
-        Err(error) => Err(error),
-    }
+    let contents = take_lines(alloc, text)?;
+    Ok(table(alloc, contents)?)
 }
 
 /// The leap table of a leap text of at most 4,194,304 bytes.
