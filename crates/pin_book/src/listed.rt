@@ -12,6 +12,22 @@ pub struct Listed {
     pub name: VersionText,
 }
 
+/// A row of no version, as no version has number 0. A list of fixed room has it where it has no row yet.
+impl Default for Listed {
+    fn default() -> Self {
+        let name = match VersionText::new(b"-") {
+            Ok(name) => name,
+            Err(_) => unreachable!(),
+        };
+        Listed {
+            n: 0,
+            src: 0,
+            slot: 0,
+            name,
+        }
+    }
+}
+
 impl Listed {
     /// The same row again, without an allocation.
     pub fn copied(&self) -> Self
