@@ -4,12 +4,9 @@
 //! The line that is printed tells what one pass found.
 #![tactic(auto)]
 
-ghost use Rattle.std.specs.Prelude.{◌<◌, length};
-
-use memchr::memchr;
 use std::rt::{Env, Files};
 use std::{env, fs, io};
-use tz_text::{Fields, Joined};
+use tz_text::{Fields, Joined, next_line};
 
 /// The longest line that is cut, in bytes without the newline.
 const LONGEST_LINE: usize = 2_048;
@@ -35,17 +32,6 @@ impl Tally {
             Ok(fields) => self.fields = self.fields.saturating_add(fields.count() as u64),
             Err(_) => self.refused = self.refused.saturating_add(1),
         }
-    }
-}
-
-/// The first line of a text, without its newline, and what follows it.
-fn next_line(text: &[u8]) -> (&[u8], &[u8])
-    requires { 0 < length text.now }
-    ensures { length result.1.now < length text.now }
-{
-    match memchr(b'\n', text) {
-        Some(end) => (&text[..end], &text[end + 1..]),
-        None => (text, &text[text.len()..]),
     }
 }
 

@@ -13,17 +13,15 @@ ghost use Rattle.tz_types.specs.Format.{is_format};
 ghost use Rattle.tz_specs.specs.Expansion.{first_instant, end_of_time};
 
 use std::alloc::Global;
-use std::marker::Brand;
 use std::rt::{Env, Files};
-use std::sync::ledger::{Blank, Ledger};
 use std::{env, fs, io};
-use tz_expand::{CompiledLine, CompiledRules, CompiledZone, expand_between, info_at};
+use tz_expand::{CompiledLine, CompiledRules, CompiledZone, expand_uncounted, info_uncounted};
 use tz_lines::read_zones;
 use tz_local::{local_info, to_sys};
 use tz_rules::letters_before;
 use tz_types::{
     Abbrev, Choose, END_OF_TIME, FIRST_INSTANT, Format, Items, Label, LocalInfo, MOST_BYTES,
-    RuleSet, Shared, Source, Steps,
+    RuleSet, Shared, Source,
 };
 
 /// The seconds from 1970 to 2037.
@@ -102,14 +100,9 @@ fn new_york(alloc: Global, set: Shared<RuleSet>) -> io::Result<CompiledZone> {
     }
 }
 
-/// Where the range that holds an instant begins, or 0, where nobody asks for the count of steps.
-fn begin_uncounted<L: Ledger>(zone: &CompiledZone, t: i64, blank: Blank) -> i64
-    requires name { blank.name ≡ L.name }
-    requires parts { blank.parts ≡ L.parts }
-    requires counts { 0 < blank.parts }
-{
-    let mut steps = Steps::<L>::new(blank);
-    match info_at(zone, t, &mut steps) {
+/// Where the range that holds an instant begins, or 0.
+fn begin_of(zone: &CompiledZone, t: i64) -> i64 {
+    match info_uncounted(zone, t) {
         Some(range) => range.begin,
         None => 0,
     }
@@ -125,25 +118,14 @@ fn begin_told(zone: &CompiledZone, l: i64) -> i64 {
     }
 }
 
-/// How many ranges the ten years from an instant on meet, where nobody asks for the count of steps.
-fn ranges_uncounted<L: Ledger>(alloc: Global, zone: &CompiledZone, from: i64, blank: Blank) -> i64
-    requires name { blank.name ≡ L.name }
-    requires parts { blank.parts ≡ L.parts }
-    requires counts { 0 < blank.parts }
-    requires second { IsBetween (pos 0) (pos 2_145_916_799) from }
-{
-    let mut steps = Steps::<L>::new(blank);
-    match expand_between(alloc, zone, from, from + TEN_YEARS, &mut steps) {
-        Ok(ranges) => ranges.len() as i64,
-        Err(_) => 0,
-    }
-}
-
 /// How many ranges the ten years from an instant on meet.
 fn ranges_met(alloc: Global, zone: &CompiledZone, from: i64) -> i64
     requires { IsBetween (pos 0) (pos 2_145_916_799) from }
 {
-    ranges_uncounted::<Brand>(alloc, zone, from, Blank::new(1))
+    match expand_uncounted(alloc, zone, from, from + TEN_YEARS) {
+        Ok(ranges) => ranges.len() as i64,
+        Err(_) => 0,
+    }
 }
 
 /// What the work gives for a number.
@@ -153,7 +135,7 @@ fn done(alloc: Global, work: Work, zone: &CompiledZone, second: i64) -> i64
     match work {
         Work::Sys => to_sys(zone, second, Some(Choose::Earliest)).unwrap_or(0),
         Work::Local => begin_told(zone, second),
-        Work::Info => begin_uncounted::<Brand>(zone, second, Blank::new(1)),
+        Work::Info => begin_of(zone, second),
         Work::Stretch => ranges_met(alloc, zone, second),
     }
 }

@@ -12,7 +12,7 @@ pub struct Listed {
     pub name: VersionText,
 }
 
-/// A row of no version, which fills a place where a row may stand.
+/// A row of no version, as no version has number 0. A list of fixed room has it where it has no row yet.
 impl Default for Listed {
     fn default() -> Self {
         let name = match VersionText::new(b"-") {

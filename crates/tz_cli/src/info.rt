@@ -1,7 +1,6 @@
 //! The command `info`: the range of a zone that holds an instant, in seconds from 1970-01-01 00:00:00.
-ghost use Rattle.std.specs.Prelude.{◌≡◌, ◌<◌, ◌↔◌, IsSome, IfOk, IfErr};
-ghost use Rattle.tz_specs.specs.Expansion.{IsInstant, range_at};
-ghost use Rattle.tz_expand.specs.Zone.{expansion_of};
+ghost use Rattle.std.specs.Prelude.{IfOk, IfErr};
+ghost use Rattle.tz_specs.specs.Expansion.{IsInstant};
 ghost use Rattle.tz_cli.specs.Info.{InfoAnswers};
 ghost use Rattle.tz_cli.specs.NamedZone.{IsRangeLine};
 ghost use Rattle.tz_cli.specs.Refusal.{Gives, RefusesRange};
@@ -10,29 +9,15 @@ use crate::line::range_line;
 use crate::named_zone::named_zone;
 use crate::refusal::Refusal;
 use std::alloc::Global;
-use std::marker::Brand;
-use std::sync::ledger::{Blank, Ledger};
-use tz_expand::{CompiledZone, info_at};
-use tz_types::{Source, Steps, SysInfo};
-
-/// The range of the zone that holds an instant, where nobody asks for the count of steps.
-fn info_uncounted<L: Ledger>(zone: &CompiledZone, instant: i64, blank: Blank) -> Option<SysInfo>
-    requires name { blank.name ≡ L.name }
-    requires parts { blank.parts ≡ L.parts }
-    requires counts { 0 < blank.parts }
-    ensures range { result ≡ range_at (expansion_of zone.now) instant }
-    ensures in_range { IsSome result ↔ IsInstant instant }
-{
-    let mut steps = Steps::<L>::new(blank);
-    info_at(zone, instant, &mut steps)
-}
+use tz_expand::{CompiledZone, info_uncounted};
+use tz_types::Source;
 
 /// The line of the range of the zone which holds an instant.
 fn info_in(alloc: Global, zone: &CompiledZone, instant: i64) -> Result<Vec<u8>, Refusal>
     ensures line { IfOk result (λ line. IsRangeLine zone.now instant line.items) }
     ensures refused { IfErr result (λ refusal. RefusesRange (¬ (IsInstant instant)) refusal) }
 {
-    let Some(range) = info_uncounted::<Brand>(zone, instant, Blank::new(1)) else {
+    let Some(range) = info_uncounted(zone, instant) else {
         return Err(Refusal::Range);
     };
     match range_line(alloc, &range) {

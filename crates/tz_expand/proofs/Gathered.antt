@@ -14,7 +14,8 @@ use Rattle.tz_specs.proofs.OrderLemmas.{Differs, true-precedes}
 use Rattle.tz_specs.proofs.OccurrenceLemmas.{rises_in_rule, apart_in_rule, LineBefore, lines_rise}
 use Rattle.tz_expand.specs.Looks.{since, through, first_look, last_look, looks_from, looks_count, looks_of, looks_of_set, IsSpan, AreYearsNear, AreLooksNear}
 use Rattle.tz_expand.proofs.Strict.{Before, strict_from_sorted}
-use Rattle.tz_expand.proofs.LookLemmas.{in_year, within_years, looks-back, year_looked, since_from, through_from, since-years, through-years, look_low, look_high, looked_cases, come_before, comes_after}
+use Rattle.tz_rules.specs.Search.{in_year}
+use Rattle.tz_expand.proofs.LookLemmas.{within_years, looks-back, year_looked, since_from, through_from, since-years, through-years, look_low, look_high, looked_cases, come_before, comes_after}
 
 -- two of its rule behind it have come two days before the stretch
 pub record Earlier (list : List Occurrence) (from : ℤ) (o : Occurrence) : Type 0 where

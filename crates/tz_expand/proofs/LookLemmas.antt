@@ -19,12 +19,10 @@ use Rattle.tz_specs.proofs.ListLemmas.{In, In-append_cases, In-append_left, In-a
 use Rattle.tz_specs.proofs.DayLemmas.{nominal_near}
 use Rattle.tz_specs.proofs.OccurrenceLemmas.{natural_of}
 use Rattle.tz_specs.proofs.YearLemmas.{lies_once}
+use Rattle.tz_rules.specs.Search.{in_year}
 use Rattle.tz_rules.proofs.YearBounds.{starts_apart, starts_rise}
 use Rattle.tz_expand.specs.Stretch.{TouchesYears}
 use Rattle.tz_expand.specs.Looks.{since, through, first_look, last_look, years_through, looks_from, looks_count, IsSpan, AreYearsNear}
-
-abbrev pub in_year : Rule → ℤ → Occurrence
-in_year rule year = record { rule = rule; year = year }
 
 -- ---- how many years there are
 abs_is : (z : ℤ) → pos 0 ≤ℤ z → pos (unsigned_abs z) ≡ z

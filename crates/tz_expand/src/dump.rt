@@ -1,46 +1,13 @@
 //! The ranges of many zones at once, in as many threads as there are processors.
-ghost use Rattle.std.specs.Prelude.{◌≡◌, ◌<◌, IfOk};
+ghost use Rattle.std.specs.Prelude.{◌≡◌, IfOk};
 ghost use Rattle.std.specs.List.{AllZip};
 ghost use Rattle.tz_expand.specs.Stretch.{IsStretch, ranges_between};
 
-use crate::{CompiledZone, expand_between};
+use crate::{CompiledZone, expand_uncounted};
 use rayon::prelude::*;
 use std::alloc::Global;
-use std::marker::Brand;
-use std::sync::ledger::{Blank, Ledger};
 use std::thread::Threads;
-use tz_types::{NoMemory, Shared, Steps, SysInfo};
-
-/// The ranges of a zone that meet the stretch, where nobody asks for the count of steps.
-fn expand_uncounted<L: Ledger>(
-    alloc: Global,
-    zone: &CompiledZone,
-    from: i64,
-    to: i64,
-    blank: Blank,
-) -> Result<Vec<SysInfo>, NoMemory>
-    requires name { blank.name ≡ L.name }
-    requires parts { blank.parts ≡ L.parts }
-    requires counts { 0 < blank.parts }
-    requires stretch { IsStretch from to }
-    ensures { IfOk result (λ ranges. ranges.items ≡ ranges_between zone.now from to) }
-{
-    let mut steps = Steps::<L>::new(blank);
-    expand_between(alloc, zone, from, to, &mut steps)
-}
-
-/// The ranges of one zone of a dump.
-fn expand_zone(
-    alloc: Global,
-    zone: &CompiledZone,
-    from: i64,
-    to: i64,
-) -> Result<Vec<SysInfo>, NoMemory>
-    requires { IsStretch from to }
-    ensures { IfOk result (λ ranges. ranges.items ≡ ranges_between zone.now from to) }
-{
-    expand_uncounted::<Brand>(alloc, zone, from, to, Blank::new(1))
-}
+use tz_types::{NoMemory, Shared, SysInfo};
 
 /// For each of the zones, in their order, the ranges that meet the stretch, as `expand_between` answers them. Each zone is a
 /// piece of work of its own.
@@ -61,7 +28,7 @@ pub fn dump_zones(
             |zone: &Shared<CompiledZone>| -> Result<Vec<SysInfo>, NoMemory>
                 requires { IsStretch from to }
                 ensures { IfOk result (λ ranges. ranges.items ≡ ranges_between zone.now from to) }
-            { expand_zone(alloc, zone.get(), from, to) },
+            { expand_uncounted(alloc, zone.get(), from, to) },
         )
         .collect::<Result<Vec<_>, NoMemory>>(rt, alloc)?
 }

@@ -1,5 +1,5 @@
 //! The ranges of a stretch of time.
-ghost use Rattle.std.specs.Prelude.{◌≡◌, ℕ, ◌+◌, ◌*◌, ◌≤◌, [], ◌∷◌, ◌++◌, length, filter, reverse, ◌<ℤ◌, IfOk, OnOk, if◌then◌else◌};
+ghost use Rattle.std.specs.Prelude.{◌≡◌, ℕ, ◌+◌, ◌*◌, ◌≤◌, ◌<◌, [], ◌∷◌, ◌++◌, length, filter, reverse, ◌<ℤ◌, IfOk, OnOk, if◌then◌else◌};
 ghost use Rattle.tz_specs.specs.Until.{Rules};
 ghost use Rattle.tz_specs.specs.Expansion.{state_in, range_of, ranges_of};
 ghost use Rattle.tz_specs.specs.RulesFollowed.{rules_followed, most_rules_followed};
@@ -9,11 +9,11 @@ ghost use Rattle.tz_expand.specs.Looks.{AreLooksOf};
 ghost use Rattle.tz_expand.specs.Stretch.{IsStretch, TouchesYears, meets, line_meets, ranges_between, lines_between};
 
 use crate::looks::{instant_at, looks_near};
-use crate::occurrence::Occurrence;
 use crate::{CompiledLine, CompiledRules, CompiledZone};
 use std::alloc::Global;
-use std::sync::ledger::Ledger;
-use tz_rules::InForce;
+use std::marker::Brand;
+use std::sync::ledger::{Blank, Ledger};
+use tz_rules::{InForce, Occurrence};
 use tz_types::{NoMemory, RuleSet, Steps, SysInfo};
 
 /// Puts the ranges of a line that meet the stretch behind those of later lines, the last of them first. The list has
@@ -135,4 +135,35 @@ pub fn expand_between<L: Ledger>(
     }
     ranges.as_mut_slice().reverse();
     Ok(ranges)
+}
+
+/// The same ranges, where the steps are counted by `blank` and told to nobody.
+fn expand_with<L: Ledger>(
+    alloc: Global,
+    zone: &CompiledZone,
+    from: i64,
+    to: i64,
+    blank: Blank,
+) -> Result<Vec<SysInfo>, NoMemory>
+    requires name { blank.name ≡ L.name }
+    requires parts { blank.parts ≡ L.parts }
+    requires counts { 0 < blank.parts }
+    requires stretch { IsStretch from to }
+    ensures { IfOk result (λ ranges. ranges.items ≡ ranges_between zone.now from to) }
+{
+    let mut steps = Steps::<L>::new(blank);
+    expand_between(alloc, zone, from, to, &mut steps)
+}
+
+/// What `expand_between` answers, where nobody asks for the count of steps.
+pub fn expand_uncounted(
+    alloc: Global,
+    zone: &CompiledZone,
+    from: i64,
+    to: i64,
+) -> Result<Vec<SysInfo>, NoMemory>
+    requires { IsStretch from to }
+    ensures { IfOk result (λ ranges. ranges.items ≡ ranges_between zone.now from to) }
+{
+    expand_with::<Brand>(alloc, zone, from, to, Blank::new(1))
 }

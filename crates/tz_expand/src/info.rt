@@ -1,5 +1,5 @@
 //! The range that holds an instant.
-ghost use Rattle.std.specs.Prelude.{◌≡◌, ℤ, ◌↔◌, ◌+◌, ◌*◌, ◌≤◌, ◌≤ℤ◌, ◌<ℤ◌, length, IsTrue, IsSome};
+ghost use Rattle.std.specs.Prelude.{◌≡◌, ℤ, ◌↔◌, ◌+◌, ◌*◌, ◌≤◌, ◌<◌, ◌≤ℤ◌, ◌<ℤ◌, length, IsTrue, IsSome};
 ghost use Rattle.tz_types.specs.declared.rule_set.RuleSet.{RuleSet};
 ghost use Rattle.tz_rules.specs.Taken.{IsLastTaken, IsNextTaken};
 ghost use Rattle.tz_specs.specs.Until.{Rules};
@@ -12,7 +12,8 @@ ghost use Rattle.tz_expand.specs.Compiled.{period_of, periods};
 ghost use Rattle.tz_expand.specs.Zone.{expansion_of};
 
 use crate::{CompiledLine, CompiledRules, CompiledZone};
-use std::sync::ledger::Ledger;
+use std::marker::Brand;
+use std::sync::ledger::{Blank, Ledger};
 use tz_rules::{InForce, Taken, last_at_or_before, next_after};
 use tz_types::{END_OF_TIME, FIRST_INSTANT, RuleSet, Steps, SysInfo};
 
@@ -117,4 +118,24 @@ pub fn info_at<L: Ledger>(zone: &CompiledZone, t: i64, steps: &mut Steps<L>) -> 
         return None;
     }
     Some(range_among(zone, t, steps))
+}
+
+/// The same range, where the steps are counted by `blank` and told to nobody.
+fn info_with<L: Ledger>(zone: &CompiledZone, t: i64, blank: Blank) -> Option<SysInfo>
+    requires name { blank.name ≡ L.name }
+    requires parts { blank.parts ≡ L.parts }
+    requires counts { 0 < blank.parts }
+    ensures range { result ≡ range_at (expansion_of zone.now) t }
+    ensures in_range { IsSome result ↔ IsInstant t }
+{
+    let mut steps = Steps::<L>::new(blank);
+    info_at(zone, t, &mut steps)
+}
+
+/// What `info_at` answers, where nobody asks for the count of steps.
+pub fn info_uncounted(zone: &CompiledZone, t: i64) -> Option<SysInfo>
+    ensures range { result ≡ range_at (expansion_of zone.now) t }
+    ensures in_range { IsSome result ↔ IsInstant t }
+{
+    info_with::<Brand>(zone, t, Blank::new(1))
 }

@@ -2,7 +2,8 @@
 //!
 //! `compile` makes a zone of a sound database ready. `info_at` answers the one range of its full expansion that holds an
 //! instant, `expand_between` all that meet a stretch, and `dump_zones` the same of many zones at once. No full
-//! expansion is ever made: each answer comes from a few occurrences near the instant or the stretch. The crate stands
+//! expansion is ever made: each answer comes from a few occurrences near the instant or the stretch. `info_uncounted` and
+//! `expand_uncounted` answer the same where nobody asks for the count of steps. The crate stands
 //! on `tz_rules` for occurrences and their changes, and on `rayon` for dumps.
 //!
 //! ```rust
@@ -24,7 +25,6 @@ mod expansion;
 mod info;
 mod laws;
 mod looks;
-mod occurrence;
 mod range;
 mod years;
 
@@ -32,6 +32,6 @@ pub use compilation::compile;
 pub use compiled_line::{CompiledLine, CompiledRules};
 pub use compiled_zone::CompiledZone;
 pub use dump::dump_zones;
-pub use expansion::expand_between;
-pub use info::info_at;
+pub use expansion::{expand_between, expand_uncounted};
+pub use info::{info_at, info_uncounted};
 pub use laws::{ranges_between_have_an_instant_of_the_stretch, zones_are_compiled_to_one_value};

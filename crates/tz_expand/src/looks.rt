@@ -6,10 +6,10 @@ ghost use Rattle.tz_specs.specs.State.{instants};
 ghost use Rattle.tz_expand.specs.Looks.{looks_of, looks_of_set, looks_count, years_through, IsSpan, AreInOrder, AreLooksNear, IsSaveBefore};
 ghost use Rattle.tz_expand.specs.Stretch.{TouchesYears};
 
-use crate::occurrence::Occurrence;
 use crate::years::Years;
 use std::alloc::Global;
 use std::sync::ledger::Ledger;
+use tz_rules::Occurrence;
 use tz_types::{NoMemory, Rule, RuleSet, Steps};
 
 /// Puts the occurrences of a rule that are looked at behind those before them, from its first year on.

@@ -4,13 +4,8 @@ ghost use Rattle.jiff_core.specs.Calendar.{IsBetween};
 ghost use Rattle.tz_specs.specs.Expansion.{first_instant, end_of_time};
 ghost use Rattle.tz_expand.specs.Looks.{first_look, last_look, years_through, IsSpan, AreYearsNear};
 
-use tz_types::{LAST_RULE_YEAR, Rule, civil_year};
-
-/// The first year in which rules occur.
-const FIRST_YEAR: i32 = -(LAST_RULE_YEAR as i32);
-
-/// The last year in which rules occur.
-const LAST_YEAR: i32 = LAST_RULE_YEAR as i32;
+use tz_rules::{FIRST_YEAR, LAST_YEAR};
+use tz_types::{Rule, civil_year};
 
 /// So many years before a stretch begins, a rule that occurs each year has two occurrences that have come.
 const YEARS_BEFORE: i32 = 3;

@@ -1,4 +1,3 @@
-pub mod Lines
 pub mod NameIndex
 pub mod RuleSets
 pub mod Records

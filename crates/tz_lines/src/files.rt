@@ -11,10 +11,9 @@ ghost use Rattle.tz_lines.specs.Refusal.{MeansLineFault};
 
 use crate::contents::Gathered;
 use crate::error::{AddError, LineError};
-use crate::next_line::{may_have_nul, next_line};
 use std::alloc::Global;
 use tz_records::read_line;
-use tz_text::Joined;
+use tz_text::{Joined, may_have_nul, next_line};
 use tz_types::{Cause, Text};
 
 /// Reads one more line of a text. The limits are asked last: a line that has a lesser cause besides is refused with that.

@@ -9,10 +9,9 @@ ghost use Rattle.tz_lines.specs.Refusal.{MeansLineFault, MeansLeapFault, MeansRe
 use crate::error::{LineError, ReadError};
 use crate::leap_contents::{LeapContents, WrittenExpiry, WrittenLeap};
 use crate::leap_faults::least_leap_fault;
-use crate::next_line::next_line;
 use std::alloc::Global;
 use tz_records::read_leap_line;
-use tz_text::Joined;
+use tz_text::{Joined, next_line};
 use tz_types::{Cause, Items, LeapEntry, Leaps, LineFault, NoMemory};
 
 /// Reads one more line of a leap text.
@@ -112,14 +111,8 @@ fn leaps_of(alloc: Global, text: &[u8]) -> Result<Leaps, LineError>
     ensures ok { IfOk result (λ leaps. ReadsLeaps text.now leaps) }
     ensures refused { IfErr result (λ e. MeansLeapFault e text.now) }
 {
-    let contents = match take_lines(alloc, text) {
-        Ok(contents) => contents,
-        Err(error) => return Err(error),
-    };
-    match table(alloc, contents) {
-        Ok(leaps) => Ok(leaps),
-        Err(error) => Err(error),
-    }
+    let contents = take_lines(alloc, text)?;
+    Ok(table(alloc, contents)?)
 }
 
 /// The leap table of a leap text of at most 4,194,304 bytes.

@@ -28,7 +28,6 @@ mod leap_faults;
 mod leap_table;
 mod limits;
 mod name_index;
-mod next_line;
 mod parts;
 mod places;
 mod rule_sets;

@@ -5,7 +5,7 @@ ghost use Rattle.tz_types.specs.Source.{bytes_together};
 ghost use Rattle.tz_specs.specs.Line.{lines_of};
 ghost use Rattle.tz_specs.specs.Reads.{line_in, place_in};
 
-use crate::next_line::next_line;
+use tz_text::next_line;
 use tz_types::Text;
 
 /// How many lines a text has.

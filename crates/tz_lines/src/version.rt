@@ -3,7 +3,7 @@ ghost use Rattle.std.specs.Prelude.{◌≡◌, codes};
 ghost use Rattle.tz_specs.specs.Field.{is_white};
 ghost use Rattle.tz_specs.specs.Reads.{without_white_end, version_of_line, version_of_text, version_of};
 
-use crate::next_line::next_line;
+use tz_text::next_line;
 use tz_types::{Source, VersionText};
 
 /// Space, tab, newline, vertical tab, form feed or carriage return. `u8::is_ascii_whitespace` leaves out the vertical tab.

@@ -26,6 +26,6 @@ mod nearest;
 mod range;
 
 pub use day::day_seconds;
-pub use laws::{day_seconds_are_counted, moves_begin_ranges_that_differ};
+pub use laws::{day_seconds_are_counted, moves_begin_ranges_that_differ, nearest_moves_are_one};
 pub use moves::{Move, moves_between};
 pub use nearest::{next_move, previous_move};

@@ -1,16 +1,14 @@
 //! The moves of a stretch of time.
-ghost use Rattle.std.specs.Prelude.{◌≡◌, List, ◌∷◌, ◌++◌, ◌<◌, map, IfOk, OnOk};
+ghost use Rattle.std.specs.Prelude.{◌≡◌, List, ◌∷◌, ◌++◌, map, IfOk, OnOk};
 ghost use Rattle.tz_types.specs.declared.range.SysInfo.{SysInfo};
-ghost use Rattle.tz_expand.specs.Stretch.{IsStretch, ranges_between};
+ghost use Rattle.tz_expand.specs.Stretch.{IsStretch};
 ghost use Rattle.tz_moves.specs.Moves.{moved_after, moved_ranges};
 ghost use Rattle.tz_moves.specs.Move.{move_to, moves_between};
 
 use crate::range::runs_alike;
 use std::alloc::Global;
-use std::marker::Brand;
-use std::sync::ledger::{Blank, Ledger};
-use tz_expand::{CompiledZone, expand_between};
-use tz_types::{Abbrev, FIRST_INSTANT, NoMemory, Steps, SysInfo};
+use tz_expand::{CompiledZone, expand_uncounted};
+use tz_types::{Abbrev, FIRST_INSTANT, NoMemory, SysInfo};
 
 /// A visible change of a zone's clock at the instant `at`. From then on local time is `offset` seconds ahead of
 /// universal time, of which `save` are daylight saving, and is called `abbrev`.
@@ -58,24 +56,6 @@ fn moves_among(alloc: Global, ranges: &[SysInfo]) -> Result<Vec<Move>, NoMemory>
     Ok(moves)
 }
 
-/// The ranges that meet the stretch, where nobody asks for the count of steps.
-fn expand_uncounted<L: Ledger>(
-    alloc: Global,
-    zone: &CompiledZone,
-    from: i64,
-    to: i64,
-    blank: Blank,
-) -> Result<Vec<SysInfo>, NoMemory>
-    requires name { blank.name ≡ L.name }
-    requires parts { blank.parts ≡ L.parts }
-    requires counts { 0 < blank.parts }
-    requires stretch { IsStretch from to }
-    ensures { IfOk result (λ ranges. ranges.items ≡ ranges_between zone.now from to) }
-{
-    let mut steps = Steps::<L>::new(blank);
-    expand_between(alloc, zone, from, to, &mut steps)
-}
-
 /// The moves of the zone's clock from an instant up to but excluding another, in seconds from 1970-01-01 00:00:00:
 /// all of them, in the order of time, each with what the clock shows from then on.
 pub fn moves_between(
@@ -89,6 +69,6 @@ pub fn moves_between(
 {
     // A range that begins at `from` is told apart by the range before it.
     let since = FIRST_INSTANT.max(from - 1);
-    let ranges = expand_uncounted::<Brand>(alloc, zone, since, to, Blank::new(1))?;
+    let ranges = expand_uncounted(alloc, zone, since, to)?;
     moves_among(alloc, ranges.as_slice())
 }

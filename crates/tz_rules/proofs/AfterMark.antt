@@ -13,7 +13,9 @@ use Rattle.tz_specs.proofs.Tests.{by_test, not_both, int_lt-true, lt-int_lt, int
 use Rattle.tz_specs.proofs.OrderLemmas.{true-precedes, precedes_asym, precedes_trans}
 use Rattle.tz_specs.proofs.OccurrenceLemmas.{rises_in_rule, occurrences_total}
 use Rattle.tz_rules.specs.declared.mark.Mark.{Mark}
-use Rattle.tz_rules.specs.Placed.{Placed, OccursIn, StandsIn}
+use Rattle.tz_rules.specs.declared.placed.Placed.{Placed}
+use Rattle.tz_rules.specs.Occurs.{OccursIn}
+use Rattle.tz_rules.specs.Placed.{StandsIn}
 use Rattle.tz_rules.specs.Mark.{is_after, IsEarliestYear}
 use Rattle.tz_rules.specs.Search.{in_year, IsFirstYear, IsLastYear, IsYearCount, FirstOfRule, IsFirstOfRule, FirstFrom, IsFirstFrom, IsFirstAfter, IsNextOf, earlier_of, through_of}
 use Rattle.tz_rules.proofs.YearBounds.{two_years_earlier}

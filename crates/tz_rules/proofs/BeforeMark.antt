@@ -15,7 +15,9 @@ use Rattle.tz_specs.proofs.OrderLemmas.{true-precedes, precedes_asym, precedes_t
 use Rattle.tz_specs.proofs.OccurrenceLemmas.{rises_in_rule, occurrences_total}
 use Rattle.tz_rules.proofs.YearBounds.{two_years_earlier}
 use Rattle.tz_rules.specs.declared.mark.Mark.{Mark}
-use Rattle.tz_rules.specs.Placed.{Placed, OccursIn, StandsIn}
+use Rattle.tz_rules.specs.declared.placed.Placed.{Placed}
+use Rattle.tz_rules.specs.Occurs.{OccursIn}
+use Rattle.tz_rules.specs.Placed.{StandsIn}
 use Rattle.tz_rules.specs.Mark.{is_before, IsLatestYear}
 use Rattle.tz_rules.specs.Search.{in_year, IsFirstYear, IsLastYear, IsYearCount, LastOfRule, IsLastOfRule, LastFrom, IsLastFrom, IsLastBefore, IsLastBy, IsPreviousOf, later_of, since_of}
 

@@ -20,7 +20,9 @@ use Rattle.tz_specs.proofs.EffectLemmas.{comes_once, in_effect_once}
 use Rattle.tz_rules.specs.declared.mark.Mark.{Mark}
 use Rattle.tz_rules.specs.declared.next_change.Coming.{Coming}
 use Rattle.tz_rules.specs.declared.next_change.Window.{Window}
-use Rattle.tz_rules.specs.Placed.{Placed, OccursIn, StandsIn}
+use Rattle.tz_rules.specs.declared.placed.Placed.{Placed}
+use Rattle.tz_rules.specs.Occurs.{OccursIn}
+use Rattle.tz_rules.specs.Placed.{StandsIn}
 use Rattle.tz_rules.specs.Mark.{is_after, IsLatestYear, IsEarliestYear}
 use Rattle.tz_rules.specs.Search.{in_year, FirstOfRule, IsFirstOfRule, FirstAfter, IsPreviousOf}
 use Rattle.tz_rules.specs.InEffect.{IsState, saved_by}
@@ -66,18 +68,18 @@ state_is_previous set stdoff t None first none is =
 state_is_previous set stdoff t (Some now) first state is =
     (state.0, next_is_previous set now.occurrence first.occurrence state.1.is is.after (λ other other_is after. is.first other other_is after))
 
-pub first_comes : (set : RuleSet) (stdoff t : ℤ) (state : Option Placed) (first : Coming) → IsState set stdoff t state → IsFirstToCome set stdoff state (Some first) → ComesAt set stdoff first.occurrence.occurrence first.at
+pub first_comes : (set : RuleSet) (stdoff t : ℤ) (state : Option Placed) (first : Coming) → IsState set stdoff t state → IsFirstToCome set stdoff state (Some first) → ComesAt set stdoff first.placed.occurrence first.at
 first_comes set stdoff t state first is to_come =
-    comes_under set stdoff first.occurrence.occurrence state (saved_by state) first.at (state_is_previous set stdoff t state first.occurrence is to_come.0) refl to_come.1
+    comes_under set stdoff first.placed.occurrence state (saved_by state) first.at (state_is_previous set stdoff t state first.placed is to_come.0) refl to_come.1
 
-pub first_is_soonest : (set : RuleSet) (stdoff t : ℤ) (state : Option Placed) (window : Window) (first : Coming) → IsShift stdoff → IsState set stdoff t state → IsFirstToCome set stdoff state (Some first) → window.mark ≡ mark_from state → window.limit ≡ (nominal_of first.occurrence.occurrence +ℤ pos 345_600) → IsSoonest set stdoff window 0 first
+pub first_is_soonest : (set : RuleSet) (stdoff t : ℤ) (state : Option Placed) (window : Window) (first : Coming) → IsShift stdoff → IsState set stdoff t state → IsFirstToCome set stdoff state (Some first) → window.mark ≡ mark_from state → window.limit ≡ (nominal_of first.placed.occurrence +ℤ pos 345_600) → IsSoonest set stdoff window 0 first
 first_is_soonest set stdoff t state window first within is to_come mark_is limit_is =
     let comes = first_comes set stdoff t state first is to_come in
     record {
       stands = to_come.0.stands;
-      after = ap (λ (m : Mark). is_after m first.occurrence.occurrence) mark_is ∙ to_come.0.after;
+      after = ap (λ (m : Mark). is_after m first.placed.occurrence) mark_is ∙ to_come.0.after;
       comes = comes;
-      within = comes_by set stdoff first.occurrence.occurrence first.at (window.limit -ℤ pos LONGEST_OFFSET) within comes (omega (arith, ints, limit_is));
+      within = comes_by set stdoff first.placed.occurrence first.at (window.limit -ℤ pos LONGEST_OFFSET) within comes (omega (arith, ints, limit_is));
       soonest = λ place rule year instant low. absurd (omega arith);
       last = λ place rule year instant low. absurd (omega arith);
     }
@@ -109,7 +111,7 @@ past_window set stdoff window place coming x instant within so_far past comes =
 -- not sooner than the soonest so far, and at the same instant not after it in the order
 abbrev NotSooner : RuleSet → ℤ → Coming → Occurrence → Type 0
 NotSooner set stdoff coming x =
-    (instant : ℤ) → ComesAt set stdoff x instant → (coming.at ≤ℤ instant) × (instant ≡ coming.at → precedes coming.occurrence.occurrence x ≡ false)
+    (instant : ℤ) → ComesAt set stdoff x instant → (coming.at ≤ℤ instant) × (instant ≡ coming.at → precedes coming.placed.occurrence x ≡ false)
 
 past_not_sooner : (set : RuleSet) (stdoff : ℤ) (window : Window) (place : ℕ) (coming : Coming) (x : Occurrence) → IsShift stdoff → IsSoonest set stdoff window place coming → window.limit <ℤ nominal_of x → NotSooner set stdoff coming x
 past_not_sooner set stdoff window place coming x within so_far past instant comes =
@@ -187,28 +189,28 @@ same_occurrence set x y here there places years =
     let rules : x.occurrence.rule ≡ y.occurrence.rule = same_rule set x.place y.place x.occurrence.rule y.occurrence.rule (sym places) here.of_rule there.of_rule in
     λ i. record { rule = rules i; year = years i }
 
-pub sooner_same : (set : RuleSet) (stdoff : ℤ) (window : Window) (place : ℕ) (rule : Rule) (found : Placed) (coming : Coming) → IsShift stdoff → IsWindow set window → slice_get set.rules place ≡ Some rule → FirstOfRule rule place window.mark found → IsSoonest set stdoff window place coming → (coming.occurrence.place ≡ found.place) × (coming.occurrence.occurrence.year ≡ found.occurrence.year) → IsSoonest set stdoff window (place + 1) coming
+pub sooner_same : (set : RuleSet) (stdoff : ℤ) (window : Window) (place : ℕ) (rule : Rule) (found : Placed) (coming : Coming) → IsShift stdoff → IsWindow set window → slice_get set.rules place ≡ Some rule → FirstOfRule rule place window.mark found → IsSoonest set stdoff window place coming → (coming.placed.place ≡ found.place) × (coming.placed.occurrence.year ≡ found.occurrence.year) → IsSoonest set stdoff window (place + 1) coming
 sooner_same set stdoff window place rule found coming within is_window here own so_far same =
     let stands = own_stands_after set rule place window.mark found here own in
-    let equal = same_occurrence set coming.occurrence found so_far.stands stands.0 same.0 same.1 in
+    let equal = same_occurrence set coming.placed found so_far.stands stands.0 same.0 same.1 in
     sooner_kept set stdoff window place rule found coming within is_window here own so_far
     (subst (NotSooner set stdoff coming) equal
     (λ instant comes.
-    let at : instant ≡ coming.at = comes_once set stdoff coming.occurrence.occurrence instant coming.at (is_of_stands set coming.occurrence so_far.stands) comes so_far.comes in
-    (omega (arith, ints, at), λ _. precedes_self coming.occurrence.occurrence)))
+    let at : instant ≡ coming.at = comes_once set stdoff coming.placed.occurrence instant coming.at (is_of_stands set coming.placed so_far.stands) comes so_far.comes in
+    (omega (arith, ints, at), λ _. precedes_self coming.placed.occurrence)))
 
-not_sooner_is : (set : RuleSet) (stdoff : ℤ) (coming found : Coming) → IsOccurrence set found.occurrence.occurrence → ComesAt set stdoff found.occurrence.occurrence found.at → is_sooner found coming ≡ false → NotSooner set stdoff coming found.occurrence.occurrence
+not_sooner_is : (set : RuleSet) (stdoff : ℤ) (coming found : Coming) → IsOccurrence set found.placed.occurrence → ComesAt set stdoff found.placed.occurrence found.at → is_sooner found coming ≡ false → NotSooner set stdoff coming found.placed.occurrence
 not_sooner_is set stdoff coming found is comes fails instant its_comes =
-    let at : instant ≡ found.at = comes_once set stdoff found.occurrence.occurrence instant found.at is its_comes comes in
+    let at : instant ≡ found.at = comes_once set stdoff found.placed.occurrence instant found.at is its_comes comes in
     let earlier = int_lt found.at coming.at in
-    let level = int_eq found.at coming.at && precedes coming.occurrence.occurrence found.occurrence.occurrence in (
+    let level = int_eq found.at coming.at && precedes coming.placed.occurrence found.placed.occurrence in (
       by_test earlier (λ (lt : earlier ≡ true). not_both (is_sooner found coming) (or_left earlier level lt) fails)
           (λ (ge : earlier ≡ false). let le = int_lt-false found.at coming.at ge in omega (arith, ints, at)),
       λ same.
-          by_test (precedes coming.occurrence.occurrence found.occurrence.occurrence)
-          (λ (after : precedes coming.occurrence.occurrence found.occurrence.occurrence ≡ true).
+          by_test (precedes coming.placed.occurrence found.placed.occurrence)
+          (λ (after : precedes coming.placed.occurrence found.placed.occurrence ≡ true).
           not_both (is_sooner found coming)
-          (or_right earlier level (and_from (int_eq found.at coming.at) (precedes coming.occurrence.occurrence found.occurrence.occurrence) (eq-int_eq found.at coming.at (sym at ∙ same)) after))
+          (or_right earlier level (and_from (int_eq found.at coming.at) (precedes coming.placed.occurrence found.placed.occurrence) (eq-int_eq found.at coming.at (sym at ∙ same)) after))
           fails)
           (λ not_after. not_after),
     )
@@ -216,22 +218,22 @@ not_sooner_is set stdoff coming found is comes fails instant its_comes =
 -- the parts of being sooner
 abbrev Sooner : Coming → Coming → Type 0
 Sooner found coming =
-    (found.at <ℤ coming.at) ⊎ ((found.at ≡ coming.at) × (precedes coming.occurrence.occurrence found.occurrence.occurrence ≡ true))
+    (found.at <ℤ coming.at) ⊎ ((found.at ≡ coming.at) × (precedes coming.placed.occurrence found.placed.occurrence ≡ true))
 
 sooner_parts : (coming found : Coming) → is_sooner found coming ≡ true → Sooner found coming
 sooner_parts coming found h =
     let earlier = int_lt found.at coming.at in
-    let level = int_eq found.at coming.at && precedes coming.occurrence.occurrence found.occurrence.occurrence in
+    let level = int_eq found.at coming.at && precedes coming.placed.occurrence found.placed.occurrence in
     ⊎_elim (λ (lt : earlier ≡ true). inl (int_lt-true found.at coming.at lt))
     (λ (both : level ≡ true).
-    let parts = and_parts (int_eq found.at coming.at) (precedes coming.occurrence.occurrence found.occurrence.occurrence) both in
+    let parts = and_parts (int_eq found.at coming.at) (precedes coming.placed.occurrence found.placed.occurrence) both in
     inr (int_eq-true found.at coming.at parts.0, parts.1))
     (or_cases earlier level h)
 
-soonest_new : (set : RuleSet) (stdoff : ℤ) (window : Window) (place : ℕ) (rule : Rule) (found coming : Coming) → IsShift stdoff → IsWindow set window → slice_get set.rules place ≡ Some rule → FirstOfRule rule place window.mark found.occurrence → ComesAt set stdoff found.occurrence.occurrence found.at → IsSoonest set stdoff window place coming → Sooner found coming → IsSoonest set stdoff window (place + 1) found
+soonest_new : (set : RuleSet) (stdoff : ℤ) (window : Window) (place : ℕ) (rule : Rule) (found coming : Coming) → IsShift stdoff → IsWindow set window → slice_get set.rules place ≡ Some rule → FirstOfRule rule place window.mark found.placed → ComesAt set stdoff found.placed.occurrence found.at → IsSoonest set stdoff window place coming → Sooner found coming → IsSoonest set stdoff window (place + 1) found
 soonest_new set stdoff window place rule found coming within is_window here own comes so_far sooner =
-    let stands = own_stands_after set rule place window.mark found.occurrence here own in
-    let by : found.at ≤ℤ coming.at = ⊎_elim (λ (lt : found.at <ℤ coming.at). omega (arith, ints)) (λ (level : (found.at ≡ coming.at) × (precedes coming.occurrence.occurrence found.occurrence.occurrence ≡ true)). omega (arith, ints, level.0)) sooner in
+    let stands = own_stands_after set rule place window.mark found.placed here own in
+    let by : found.at ≤ℤ coming.at = ⊎_elim (λ (lt : found.at <ℤ coming.at). omega (arith, ints)) (λ (level : (found.at ≡ coming.at) × (precedes coming.placed.occurrence found.placed.occurrence ≡ true)). omega (arith, ints, level.0)) sooner in
     let limit = so_far.within in
     let before : IsSoonest set stdoff window place found =
     record {
@@ -245,24 +247,24 @@ soonest_new set stdoff window place rule found coming within is_window here own 
       last = λ at other year instant below there occurs after its_comes equal.
           let late = so_far.soonest at other year instant below there occurs after its_comes in
           ⊎_elim (λ (lt : found.at <ℤ coming.at). absurd (omega (arith, ints, equal)))
-          (λ (level : (found.at ≡ coming.at) × (precedes coming.occurrence.occurrence found.occurrence.occurrence ≡ true)).
-          not_after_later coming.occurrence.occurrence found.occurrence.occurrence (in_year other year) level.1
+          (λ (level : (found.at ≡ coming.at) × (precedes coming.placed.occurrence found.placed.occurrence ≡ true)).
+          not_after_later coming.placed.occurrence found.placed.occurrence (in_year other year) level.1
           (so_far.last at other year instant below there occurs after its_comes (equal ∙ level.0)))
           sooner;
     } in
-    sooner_kept set stdoff window place rule found.occurrence found within is_window here own before
+    sooner_kept set stdoff window place rule found.placed found within is_window here own before
     (λ instant its_comes.
-    let at : instant ≡ found.at = comes_once set stdoff found.occurrence.occurrence instant found.at (is_of_stands set found.occurrence stands.0) its_comes comes in
-    (omega (arith, ints, at), λ _. precedes_self found.occurrence.occurrence))
+    let at : instant ≡ found.at = comes_once set stdoff found.placed.occurrence instant found.at (is_of_stands set found.placed stands.0) its_comes comes in
+    (omega (arith, ints, at), λ _. precedes_self found.placed.occurrence))
 
-pub sooner_is : (set : RuleSet) (stdoff : ℤ) (window : Window) (place : ℕ) (rule : Rule) (found coming : Coming) → IsShift stdoff → IsWindow set window → slice_get set.rules place ≡ Some rule → FirstOfRule rule place window.mark found.occurrence → ComesAt set stdoff found.occurrence.occurrence found.at → IsSoonest set stdoff window place coming → IsSoonest set stdoff window (place + 1) (sooner_of coming found)
+pub sooner_is : (set : RuleSet) (stdoff : ℤ) (window : Window) (place : ℕ) (rule : Rule) (found coming : Coming) → IsShift stdoff → IsWindow set window → slice_get set.rules place ≡ Some rule → FirstOfRule rule place window.mark found.placed → ComesAt set stdoff found.placed.occurrence found.at → IsSoonest set stdoff window place coming → IsSoonest set stdoff window (place + 1) (sooner_of coming found)
 sooner_is set stdoff window place rule found coming within is_window here own comes so_far =
     by_test (is_sooner found coming)
     (λ (sooner : is_sooner found coming ≡ true). rw sooner (soonest_new set stdoff window place rule found coming within is_window here own comes so_far (sooner_parts coming found sooner)))
     (λ (fails : is_sooner found coming ≡ false).
-    let stands = own_stands_after set rule place window.mark found.occurrence here own in
-    rw fails (sooner_kept set stdoff window place rule found.occurrence coming within is_window here own so_far
-    (not_sooner_is set stdoff coming found (is_of_stands set found.occurrence stands.0) comes fails)))
+    let stands = own_stands_after set rule place window.mark found.placed here own in
+    rw fails (sooner_kept set stdoff window place rule found.placed coming within is_window here own so_far
+    (not_sooner_is set stdoff coming found (is_of_stands set found.placed stands.0) comes fails)))
 
 -- ---- all rules
 after_later : (set : RuleSet) (state : Option Placed) (x y : Occurrence) → IsOccurrence set y → is_after (mark_from state) x ≡ true → precedes x y ≡ true → is_after (mark_from state) y ≡ true
@@ -272,8 +274,8 @@ after_later set (Some now) x y is after later = precedes_trans now.occurrence x 
 
 pub soonest_is_next : (set : RuleSet) (stdoff t : ℤ) (state : Option Placed) (window : Window) (place : ℕ) (coming : Coming) → IsState set stdoff t state → window.mark ≡ mark_from state → length set.rules ≤ place → IsSoonest set stdoff window place coming → IsNext set stdoff t coming
 soonest_is_next set stdoff t state window place coming is mark_is whole so_far =
-    let found = coming.occurrence.occurrence in
-    let is_found = is_of_stands set coming.occurrence so_far.stands in
+    let found = coming.placed.occurrence in
+    let is_found = is_of_stands set coming.placed so_far.stands in
     let after : is_after (mark_from state) found ≡ true = ap (λ (m : Mark). is_after m found) (sym mark_is) ∙ so_far.after in
     let low : (other : Occurrence) (there : (at : ℕ) × (slice_get set.rules at ≡ Some other.rule)) → there.0 < place = λ other there. let within = slice_get_within set.rules there.0 other.rule there.1 in omega (arith, within) in
     record {

@@ -17,7 +17,8 @@ use Rattle.tz_specs.proofs.OccurrenceLemmas.{apart_in_rule}
 use Rattle.tz_specs.proofs.EffectLemmas.{comes_somewhen, comes_once}
 use Rattle.tz_rules.specs.declared.mark.Mark.{Mark}
 use Rattle.tz_rules.specs.Mark.{is_before}
-use Rattle.tz_rules.specs.Placed.{Placed, OccursIn}
+use Rattle.tz_rules.specs.declared.placed.Placed.{Placed}
+use Rattle.tz_rules.specs.Occurs.{OccursIn}
 use Rattle.tz_rules.specs.Search.{in_year, LastOfRule, IsLastOfRule, IsLastBy}
 use Rattle.tz_rules.specs.InEffect.{IsState, HasCome, is_settled, follows, LastCome, IsLastCome, ComesLater}
 use Rattle.tz_rules.proofs.Instants.{comes_after, comes_by}

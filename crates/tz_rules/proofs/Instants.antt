@@ -12,7 +12,8 @@ use Rattle.tz_specs.specs.Standing.{IsOccurrence}
 use Rattle.tz_specs.specs.Effect.{ComesAt}
 use Rattle.tz_specs.proofs.EffectLemmas.{comes_near}
 use Rattle.tz_specs.proofs.ExpansionLemmas.{begin_of_time-midnight, end_of_time-midnight}
-use Rattle.tz_rules.specs.Placed.{Placed, OccursIn}
+use Rattle.tz_rules.specs.declared.placed.Placed.{Placed}
+use Rattle.tz_rules.specs.Occurs.{OccursIn}
 use Rattle.tz_rules.specs.Search.{IsPreviousOf}
 use Rattle.tz_rules.specs.InEffect.{saved_by}
 use Rattle.tz_rules.proofs.YearBounds.{starts_apart, near_start}

@@ -15,7 +15,8 @@ use Rattle.tz_specs.proofs.ListLemmas.{In-from_get, In-from_Contains, Contains-f
 use Rattle.tz_specs.proofs.OrderLemmas.{true-precedes, precedes_trans}
 use Rattle.tz_specs.proofs.OccurrenceLemmas.{rises_in_rule, occurrences_total}
 use Rattle.tz_specs.proofs.EffectLemmas.{letters_of_first, no_letters}
-use Rattle.tz_rules.specs.Placed.{Placed, OccursIn}
+use Rattle.tz_rules.specs.declared.placed.Placed.{Placed}
+use Rattle.tz_rules.specs.Occurs.{OccursIn}
 use Rattle.tz_rules.specs.Search.{IsFirstYear, IsLastYear}
 use Rattle.tz_rules.specs.Letters.{StandsBelow, FirstBelow, IsFirstBelow, FirstOfStandard, IsFirstOfStandard}
 

@@ -10,7 +10,7 @@ use Rattle.tz_specs.specs.Around.{IsToCome, IsNextChange}
 use Rattle.tz_specs.proofs.Tests.{not_both}
 use Rattle.tz_rules.specs.declared.taken.Taken.{Taken}
 use Rattle.tz_rules.specs.declared.next_change.Coming.{Coming}
-use Rattle.tz_rules.specs.Placed.{Placed}
+use Rattle.tz_rules.specs.declared.placed.Placed.{Placed}
 use Rattle.tz_rules.specs.InEffect.{IsAsGoodAs, IsState}
 use Rattle.tz_rules.specs.NextChange.{IsNext, IsNextAfter}
 use Rattle.tz_rules.specs.Taken.{IsTakenOccurrence, IsTakenAt, IsLastTaken, IsNextTaken}
@@ -90,10 +90,10 @@ pub taken_at : (set : RuleSet) (stdoff t near : ℤ) (found : Placed) (taken : T
 taken_at set stdoff t near found taken within same state tells comes =
     (found.occurrence, tells, in_effect_far set stdoff t near found.occurrence within same state.1, comes)
 
-pub next_taken_at : (set : RuleSet) (stdoff t near : ℤ) (coming : Coming) (taken : Taken) → IsShift stdoff → IsAsGoodAs t near → IsNext set stdoff near coming → IsTakenOccurrence set taken coming.occurrence.occurrence → taken.at ≡ coming.at → IsNextTaken set stdoff t (Some taken)
+pub next_taken_at : (set : RuleSet) (stdoff t near : ℤ) (coming : Coming) (taken : Taken) → IsShift stdoff → IsAsGoodAs t near → IsNext set stdoff near coming → IsTakenOccurrence set taken coming.placed.occurrence → taken.at ≡ coming.at → IsNextTaken set stdoff t (Some taken)
 next_taken_at set stdoff t near coming taken within same next tells at = (
   rw at (next_change_far set stdoff t near coming.at within same next.change),
-  (coming.occurrence.occurrence, tells, rw at next.in_effect, rw at next.comes),
+  (coming.placed.occurrence, tells, rw at next.in_effect, rw at next.comes),
 )
 
 pub none_next : (set : RuleSet) (stdoff t near : ℤ) → IsShift stdoff → IsAsGoodAs t near → IsNextAfter set stdoff near None → IsNextTaken set stdoff t None

@@ -21,7 +21,7 @@ use Rattle.tz_specs.proofs.ListLemmas.{In}
 use Rattle.tz_specs.proofs.OrderLemmas.{precedes-true, precedes_asym, precedes_trans}
 use Rattle.tz_specs.proofs.OccurrenceLemmas.{In-occurrences, occurrences_strict, occurrences_places, occurrences_total}
 use Rattle.tz_specs.proofs.EffectLemmas.{at_place, place_of, previous_at, first_at, comes_somewhen, comes_once, comes_near, shift_near}
-use Rattle.tz_rules.specs.Placed.{Placed}
+use Rattle.tz_rules.specs.declared.placed.Placed.{Placed}
 use Rattle.tz_rules.specs.Mark.{is_after}
 use Rattle.tz_rules.specs.Search.{FirstAfter, IsFirstAfter, LastBy, IsNextOf}
 use Rattle.tz_rules.specs.Passed.{Passed, NoneBy, PassesNext}

@@ -9,7 +9,7 @@ use Rattle.tz_types.specs.declared.rule.Rule.{Rule}
 use Rattle.tz_types.specs.Calendar.{year_start, LiesInYear}
 use Rattle.tz_specs.specs.Occurrence.{nominal_second}
 use Rattle.tz_specs.proofs.DayLemmas.{civil_day_rises, nominal_near}
-use Rattle.tz_rules.specs.Placed.{OccursIn}
+use Rattle.tz_rules.specs.Occurs.{OccursIn}
 use Rattle.tz_rules.specs.Mark.{IsLatestYear, IsEarliestYear}
 
 -- a later year starts at least 365 days later

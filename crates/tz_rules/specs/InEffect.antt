@@ -7,7 +7,9 @@ use Rattle.tz_specs.specs.Occurrence.{Occurrence, nominal_of, precedes}
 use Rattle.tz_specs.specs.Standing.{IsOccurrence}
 use Rattle.tz_specs.specs.Effect.{ComesAt, IsInEffect, NoneInEffect}
 use Rattle.tz_rules.specs.declared.shift.TheConstants.{MOST_SHIFT}
-use Rattle.tz_rules.specs.Placed.{Placed, OccursIn, StandsIn}
+use Rattle.tz_rules.specs.declared.placed.Placed.{Placed}
+use Rattle.tz_rules.specs.Occurs.{OccursIn}
+use Rattle.tz_rules.specs.Placed.{StandsIn}
 use Rattle.tz_rules.specs.Search.{in_year}
 
 -- all instants at which occurrences come lie strictly between these two

@@ -3,7 +3,8 @@ use Rattle.std.specs.Prelude.{◌≡◌, ℕ, ◌<◌, ◌⊎◌, ℤ, ◌≤ℤ
 use Rattle.tz_types.specs.declared.rule.Rule.{Rule}
 use Rattle.tz_types.specs.declared.rule_set.RuleSet.{RuleSet}
 use Rattle.tz_specs.specs.Occurrence.{Occurrence, precedes}
-use Rattle.tz_rules.specs.Placed.{Placed, OccursIn}
+use Rattle.tz_rules.specs.declared.placed.Placed.{Placed}
+use Rattle.tz_rules.specs.Occurs.{OccursIn}
 
 -- an occurrence with save 0 of one of the first rules of the set
 pub record StandsBelow (set : RuleSet) (count : ℕ) (occurrence : Occurrence) : Type 0 where

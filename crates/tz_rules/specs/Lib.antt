@@ -2,6 +2,7 @@ pub mod OffsetText
 pub mod Passed
 pub mod Letters
 pub mod Following
+pub mod Occurs
 pub mod Placed
 pub mod Mark
 pub mod Search

@@ -5,7 +5,7 @@ use Rattle.jiff_core.specs.Calendar.{IsBetween}
 use Rattle.tz_types.specs.declared.rule.Rule.{Rule}
 use Rattle.tz_specs.specs.Occurrence.{Occurrence, nominal_of, nominal_second}
 use Rattle.tz_rules.specs.declared.mark.Mark.{Mark}
-use Rattle.tz_rules.specs.Placed.{OccursIn}
+use Rattle.tz_rules.specs.Occurs.{OccursIn}
 
 -- the occurrence comes earlier in the order than the mark
 abbrev pub is_before : Mark → Occurrence → Bool

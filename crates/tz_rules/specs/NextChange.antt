@@ -12,7 +12,9 @@ use Rattle.tz_rules.specs.declared.mark.Mark.{Mark}
 use Rattle.tz_rules.specs.declared.next_change.Coming.{Coming}
 use Rattle.tz_rules.specs.declared.next_change.Window.{Window}
 use Rattle.tz_rules.specs.declared.shift.TheConstants.{MOST_SHIFT}
-use Rattle.tz_rules.specs.Placed.{Placed, OccursIn, StandsIn}
+use Rattle.tz_rules.specs.declared.placed.Placed.{Placed}
+use Rattle.tz_rules.specs.Occurs.{OccursIn}
+use Rattle.tz_rules.specs.Placed.{StandsIn}
 use Rattle.tz_rules.specs.Mark.{is_after, IsLatestYear, IsEarliestYear}
 use Rattle.tz_rules.specs.Search.{in_year, FirstAfter}
 use Rattle.tz_rules.specs.InEffect.{saved_by}
@@ -31,17 +33,17 @@ pub record IsWindow (set : RuleSet) (window : Window) : Type 0 where
 -- the soonest occurrence after the mark, and of those that come at one instant the last, of one that is known and of
 -- the rules that stand before a place
 pub record IsSoonest (set : RuleSet) (stdoff : ℤ) (window : Window) (before : ℕ) (coming : Coming) : Type 0 where
-  pub stands : StandsIn set coming.occurrence
-  pub after : IsTrue (is_after window.mark coming.occurrence.occurrence)
-  pub comes : ComesAt set stdoff coming.occurrence.occurrence coming.at
+  pub stands : StandsIn set coming.placed
+  pub after : IsTrue (is_after window.mark coming.placed.occurrence)
+  pub comes : ComesAt set stdoff coming.placed.occurrence coming.at
   pub within : coming.at ≤ℤ (window.limit -ℤ MOST_SHIFT)
   pub soonest : (place : ℕ) (rule : Rule) (year instant : ℤ) → place < before → slice_get set.rules place ≡ Some rule → OccursIn rule year → IsTrue (is_after window.mark (in_year rule year)) → ComesAt set stdoff (in_year rule year) instant → coming.at ≤ℤ instant
-  pub last : (place : ℕ) (rule : Rule) (year instant : ℤ) → place < before → slice_get set.rules place ≡ Some rule → OccursIn rule year → IsTrue (is_after window.mark (in_year rule year)) → ComesAt set stdoff (in_year rule year) instant → instant ≡ coming.at → precedes coming.occurrence.occurrence (in_year rule year) ≡ false
+  pub last : (place : ℕ) (rule : Rule) (year instant : ℤ) → place < before → slice_get set.rules place ≡ Some rule → OccursIn rule year → IsTrue (is_after window.mark (in_year rule year)) → ComesAt set stdoff (in_year rule year) instant → instant ≡ coming.at → precedes coming.placed.occurrence (in_year rule year) ≡ false
 
 -- the sooner of two, and of two that come at one instant the last
 abbrev pub is_sooner : Coming → Coming → Bool
 is_sooner found other =
-    int_lt found.at other.at || (int_eq found.at other.at && precedes other.occurrence.occurrence found.occurrence.occurrence)
+    int_lt found.at other.at || (int_eq found.at other.at && precedes other.placed.occurrence found.placed.occurrence)
 
 abbrev pub sooner_of : Coming → Coming → Coming
 sooner_of other found = if is_sooner found other then found else other
@@ -50,14 +52,14 @@ sooner_of other found = if is_sooner found other then found else other
 abbrev pub IsFirstToCome : RuleSet → ℤ → Option Placed → Option Coming → Type 0
 IsFirstToCome set stdoff state None = (other : Occurrence) → IsOccurrence set other → is_after (mark_from state) other ≡ false
 IsFirstToCome set stdoff state (Some coming) =
-    FirstAfter set (mark_from state) coming.occurrence × (coming.at ≡ (nominal_of coming.occurrence.occurrence -ℤ shift coming.occurrence.occurrence.rule.moment.kind stdoff (saved_by state)))
+    FirstAfter set (mark_from state) coming.placed × (coming.at ≡ (nominal_of coming.placed.occurrence -ℤ shift coming.placed.occurrence.rule.moment.kind stdoff (saved_by state)))
 
 -- the next change after t, and what is in effect from it on
 pub record IsNext (set : RuleSet) (stdoff t : ℤ) (coming : Coming) : Type 0 where
-  pub stands : StandsIn set coming.occurrence
+  pub stands : StandsIn set coming.placed
   pub change : IsNextChange set stdoff t coming.at
-  pub in_effect : IsInEffect set stdoff coming.at coming.occurrence.occurrence
-  pub comes : ComesAt set stdoff coming.occurrence.occurrence coming.at
+  pub in_effect : IsInEffect set stdoff coming.at coming.placed.occurrence
+  pub comes : ComesAt set stdoff coming.placed.occurrence coming.at
 
 -- the next change, and none where nothing is to come
 abbrev pub IsNextAfter : RuleSet → ℤ → ℤ → Option Coming → Type 0

@@ -5,7 +5,7 @@ use Rattle.tz_types.specs.declared.moment.Moment.{Moment}
 use Rattle.tz_specs.specs.Occurrence.{Occurrence, nominal_of, precedes}
 use Rattle.tz_specs.specs.Standing.{IsOccurrence}
 use Rattle.tz_specs.specs.Effect.{until_with, NextBefore, FirstBefore, FirstNotBefore, IsUntilUnder}
-use Rattle.tz_rules.specs.Placed.{Placed}
+use Rattle.tz_rules.specs.declared.placed.Placed.{Placed}
 
 -- The UNTIL isn't read under an earlier occurrence, nor before the first one: each time the next one comes before it.
 pub record Passed (set : RuleSet) (stdoff year : ℤ) (moment : Moment) (occurrence : Occurrence) : Type 0 where

@@ -8,7 +8,9 @@ use Rattle.tz_specs.specs.Occurrence.{Occurrence, nominal_of, precedes}
 use Rattle.tz_specs.specs.Standing.{IsOccurrence}
 use Rattle.tz_specs.specs.Effect.{IsFirst, IsPrevious}
 use Rattle.tz_rules.specs.declared.mark.Mark.{Mark}
-use Rattle.tz_rules.specs.Placed.{Placed, OccursIn, StandsIn}
+use Rattle.tz_rules.specs.declared.placed.Placed.{Placed}
+use Rattle.tz_rules.specs.Occurs.{OccursIn}
+use Rattle.tz_rules.specs.Placed.{StandsIn}
 use Rattle.tz_rules.specs.Mark.{is_before, is_after}
 
 -- the rule in a year

@@ -11,8 +11,8 @@ ghost use Rattle.tz_rules.specs.InEffect.{IsNearTime, IsAsGoodAs, IsState, IsLas
 
 use crate::instant::instant_of;
 use crate::mark::{Mark, latest_year};
+use crate::placed::Placed;
 use crate::previous_occurrence::{last_by, last_of_rule};
-use crate::rule_year::RuleYear;
 use crate::shift::MOST_SHIFT;
 use crate::years::FIRST_YEAR;
 use std::sync::ledger::Ledger;
@@ -44,23 +44,23 @@ fn two_days_after(t: i64) -> Mark
 }
 
 /// Whether it comes two days before `t` on its own clock, if it is one at all.
-fn is_settled(found: &Option<RuleYear<'_>>, t: i64) -> bool
+fn is_settled(found: &Option<Placed<'_>>, t: i64) -> bool
     requires { IsNearTime t }
     ensures { result ≡ is_settled t found.now }
 {
     match found {
         None => true,
-        Some(found) => found.nominal() <= t - MOST_SHIFT,
+        Some(found) => found.occurrence.nominal() <= t - MOST_SHIFT,
     }
 }
 
 /// Whether it comes after the one found so far, if there is one.
-fn follows(last: &Option<RuleYear<'_>>, found: &RuleYear<'_>) -> bool
+fn follows(last: &Option<Placed<'_>>, found: &Placed<'_>) -> bool
     ensures { result ≡ follows last.now found.now }
 {
     match last {
         None => true,
-        Some(last) => last.precedes(found),
+        Some(last) => last.occurrence.precedes(&found.occurrence),
     }
 }
 
@@ -69,8 +69,8 @@ fn comes_later<L: Ledger>(
     set: &RuleSet,
     stdoff: i64,
     t: i64,
-    last: &Option<RuleYear<'_>>,
-    found: &RuleYear<'_>,
+    last: &Option<Placed<'_>>,
+    found: &Placed<'_>,
     steps: &mut Steps<L>,
 ) -> bool
     requires stdoff_in { IsShift stdoff }
@@ -80,11 +80,11 @@ fn comes_later<L: Ledger>(
     ensures not_later { result ≡ false → ¬ (ComesLater set.now stdoff t last.now found.now) }
     ensures steps { steps.new ≤ steps.old + 3 * length set.now.rules }
 {
-    if found.nominal() <= t - MOST_SHIFT {
+    if found.occurrence.nominal() <= t - MOST_SHIFT {
         return false;
     }
     if follows(last, found) {
-        return instant_of(set, stdoff, found, steps) <= t;
+        return instant_of(set, stdoff, &found.occurrence, steps) <= t;
     }
     false
 }
@@ -92,14 +92,14 @@ fn comes_later<L: Ledger>(
 /// The last occurrence that has come, of those found so far and of one more rule. `latest` is the last year in which
 /// one may lie up to two days after `t`.
 fn come_with<'a, L: Ledger>(
-    last: Option<RuleYear<'a>>,
+    last: Option<Placed<'a>>,
     set: &'a RuleSet,
     stdoff: i64,
     t: i64,
     latest: i32,
     place: usize,
     steps: &mut Steps<L>,
-) -> Option<RuleYear<'a>>
+) -> Option<Placed<'a>>
     requires stdoff_in { IsShift stdoff }
     requires near { IsNearTime t }
     requires latest_in { IsYear latest }
@@ -129,7 +129,7 @@ fn last_come<'a, L: Ledger>(
     stdoff: i64,
     t: i64,
     steps: &mut Steps<L>,
-) -> Option<RuleYear<'a>>
+) -> Option<Placed<'a>>
     requires stdoff_in { IsShift stdoff }
     requires near { IsNearTime t }
     ensures state { IsState set.now stdoff t result }
@@ -150,7 +150,7 @@ pub(crate) fn in_effect<'a, L: Ledger>(
     stdoff: i64,
     t: i64,
     steps: &mut Steps<L>,
-) -> Option<RuleYear<'a>>
+) -> Option<Placed<'a>>
     requires stdoff_in { IsShift stdoff }
     requires near { IsNearTime t }
     ensures state { IsState set.now stdoff t result }

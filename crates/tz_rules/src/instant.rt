@@ -5,19 +5,20 @@ ghost use Rattle.tz_types.specs.Amount.{IsShift};
 ghost use Rattle.tz_specs.specs.Effect.{ComesAt};
 ghost use Rattle.tz_rules.specs.InEffect.{saved_by};
 
+use crate::occurrences::Occurrence;
+use crate::placed::Placed;
 use crate::previous_occurrence::last_before;
-use crate::rule_year::RuleYear;
 use std::sync::ledger::Ledger;
 use tz_types::{RuleSet, Steps};
 
 /// The save that an occurrence puts in force, and 0 before the first.
-pub(crate) fn save_by(previous: &Option<RuleYear<'_>>) -> i64
+pub(crate) fn save_by(previous: &Option<Placed<'_>>) -> i64
     ensures value { result ≡ saved_by previous.now }
     ensures bound { IsShift result }
 {
     match previous {
         None => 0,
-        Some(previous) => previous.save(),
+        Some(previous) => previous.occurrence.save(),
     }
 }
 
@@ -25,11 +26,11 @@ pub(crate) fn save_by(previous: &Option<RuleYear<'_>>) -> i64
 pub(crate) fn instant_of<L: Ledger>(
     set: &RuleSet,
     stdoff: i64,
-    occurrence: &RuleYear<'_>,
+    occurrence: &Occurrence<'_>,
     steps: &mut Steps<L>,
 ) -> i64
     requires { IsShift stdoff }
-    ensures comes { ComesAt set.now stdoff occurrence.now.occurrence result }
+    ensures comes { ComesAt set.now stdoff occurrence.now result }
     ensures bound { IsBetween (neg_ℤ (pos 377_677_872_001)) (pos 253_377_561_601) result }
     ensures steps { steps.new ≤ steps.old + 3 * length set.now.rules }
 {

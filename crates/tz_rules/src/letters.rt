@@ -4,7 +4,7 @@ ghost use Rattle.tz_specs.specs.Until.{Rules};
 ghost use Rattle.tz_specs.specs.Before.{letters_before};
 ghost use Rattle.tz_rules.specs.Letters.{IsFirstOfStandard, IsFirstBelow};
 
-use crate::rule_year::RuleYear;
+use crate::placed::Placed;
 use crate::years::{FIRST_YEAR, LAST_YEAR, first_year, last_year};
 use std::marker::Brand;
 use std::sync::ledger::{Blank, Ledger};
@@ -23,23 +23,23 @@ fn first_of_standard<'a, L: Ledger>(
     rule: &'a Rule,
     place: usize,
     steps: &mut Steps<L>,
-) -> Option<RuleYear<'a>>
+) -> Option<Placed<'a>>
     ensures { IsFirstOfStandard rule.now place result }
 {
     let year = first_year(rule, FIRST_YEAR);
     if rule.save != 0 || year > last_year(rule, LAST_YEAR) {
         return None;
     }
-    Some(RuleYear::look(rule, place, year, steps))
+    Some(Placed::look(rule, place, year, steps))
 }
 
 /// The first occurrence with save 0 of the rules up to a place, where that of the rules before it is known.
 fn first_through<'a, L: Ledger>(
     set: &'a RuleSet,
     place: usize,
-    best: Option<RuleYear<'a>>,
+    best: Option<Placed<'a>>,
     steps: &mut Steps<L>,
-) -> Option<RuleYear<'a>>
+) -> Option<Placed<'a>>
     requires within { place < length set.now.rules }
     requires best { IsFirstBelow set.now place best }
     ensures { IsFirstBelow set.now (place + 1) result }
@@ -51,7 +51,7 @@ fn first_through<'a, L: Ledger>(
     match best {
         None => Some(found),
         Some(best) => {
-            if found.precedes(&best) {
+            if found.occurrence.precedes(&best.occurrence) {
                 Some(found)
             } else {
                 Some(best)
@@ -61,7 +61,7 @@ fn first_through<'a, L: Ledger>(
 }
 
 /// The first occurrence with save 0 of the whole set.
-fn first_standard<'a, L: Ledger>(set: &'a RuleSet, steps: &mut Steps<L>) -> Option<RuleYear<'a>>
+fn first_standard<'a, L: Ledger>(set: &'a RuleSet, steps: &mut Steps<L>) -> Option<Placed<'a>>
     ensures { IsFirstBelow set.now (length set.now.rules) result }
 {
     let mut best = None;
@@ -80,7 +80,7 @@ fn letters_uncounted<L: Ledger>(set: &RuleSet, blank: Blank) -> Letters
 {
     let mut steps = Steps::<L>::new(blank);
     match first_standard(set, &mut steps) {
-        Some(found) => found.rule().letters.copied(),
+        Some(found) => found.occurrence.rule().letters.copied(),
         None => Letters::empty(),
     }
 }

@@ -2,7 +2,8 @@
 //!
 //! The layer above uses `last_at_or_before` and `next_after`, the occurrence in effect at an instant and the next change;
 //! `until_instant`, the instant at which a line with an UNTIL ends; `InForce`, what is in force, with `letters_before` for
-//! the time before any occurrence is in effect; and `abbreviation`, how that time is called.
+//! the time before any occurrence is in effect; and `abbreviation`, how that time is called. Where it looks at single
+//! occurrences itself, it does so by `Occurrence`.
 //!
 //! ```rust
 //! // the rules of the United States from 2007 on, at -5:00, in July of 2024
@@ -22,8 +23,9 @@ mod letters;
 mod mark;
 mod next_change;
 mod next_occurrence;
+mod occurrences;
+mod placed;
 mod previous_occurrence;
-mod rule_year;
 mod shift;
 mod taken;
 mod until;
@@ -34,6 +36,7 @@ mod years;
 pub use format::abbreviation;
 pub use in_force::InForce;
 pub use letters::letters_before;
-pub use rule_year::occurrence;
+pub use occurrences::Occurrence;
 pub use taken::{Taken, last_at_or_before, next_after};
 pub use until::until_instant;
+pub use years::{FIRST_YEAR, LAST_YEAR, occurrence};

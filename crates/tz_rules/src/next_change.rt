@@ -16,15 +16,15 @@ use crate::in_effect::{BEFORE_ALL, in_effect};
 use crate::instant::{instant_of, save_by};
 use crate::mark::{Mark, earliest_year, latest_year};
 use crate::next_occurrence::{first_after_mark, first_of_rule};
-use crate::rule_year::RuleYear;
+use crate::placed::Placed;
 use crate::shift::MOST_SHIFT;
 use std::sync::ledger::Ledger;
 use tz_types::{RuleSet, Steps};
 
-/// An occurrence and the instant at which it comes.
+/// An occurrence of a set and the instant at which it comes.
 #[derive(Debug, Drop)]
 pub struct Coming<'a> {
-    pub occurrence: RuleYear<'a>,
+    pub placed: Placed<'a>,
     pub at: i64,
 }
 
@@ -38,7 +38,7 @@ pub struct Window {
 }
 
 /// The mark of what is in effect, and where nothing is, one before all.
-fn mark_after(state: &Option<RuleYear<'_>>) -> Mark
+fn mark_after(state: &Option<Placed<'_>>) -> Mark
     ensures mark { result ≡ mark_from state.now }
     ensures in_reach { IsInReach result.second }
 {
@@ -47,12 +47,12 @@ fn mark_after(state: &Option<RuleYear<'_>>) -> Mark
             second: BEFORE_ALL,
             line: 0,
         },
-        Some(state) => state.mark(),
+        Some(state) => state.occurrence.mark(),
     }
 }
 
 /// The window from a mark to four days after the first occurrence after it.
-fn window_from(mark: Mark, first: &RuleYear<'_>) -> Window
+fn window_from(mark: Mark, first: &Placed<'_>) -> Window
     requires { IsInReach mark.second }
     ensures mark { result.mark ≡ mark }
     ensures limit { result.limit ≡ nominal_of first.now.occurrence +ℤ (MOST_SHIFT +ℤ MOST_SHIFT) }
@@ -60,7 +60,7 @@ fn window_from(mark: Mark, first: &RuleYear<'_>) -> Window
     ensures earliest { IsYear result.earliest }
     ensures latest { IsYear result.latest }
 {
-    let limit = first.nominal() + 2 * MOST_SHIFT;
+    let limit = first.occurrence.nominal() + 2 * MOST_SHIFT;
     Window {
         mark,
         limit,
@@ -70,17 +70,20 @@ fn window_from(mark: Mark, first: &RuleYear<'_>) -> Window
 }
 
 /// Whether the two are one occurrence.
-fn is_same(occurrence: &RuleYear<'_>, other: &RuleYear<'_>) -> bool
-    ensures { IsTrue result ↔ ((occurrence.now.place ≡ other.now.place) × (occurrence.now.occurrence.year ≡ other.now.occurrence.year)) }
+fn is_same(placed: &Placed<'_>, other: &Placed<'_>) -> bool
+    ensures { IsTrue result ↔ ((placed.now.place ≡ other.now.place) × (placed.now.occurrence.year ≡ other.now.occurrence.year)) }
 {
-    occurrence.place() == other.place() && occurrence.year() == other.year()
+    placed.place == other.place && placed.occurrence.year() == other.occurrence.year()
 }
 
 /// Whether the one found is sooner, or comes at the same instant and later in the order.
 fn is_sooner(found: &Coming<'_>, other: &Coming<'_>) -> bool
     ensures { result ≡ is_sooner found.now other.now }
 {
-    found.at < other.at || found.at == other.at && other.occurrence.precedes(&found.occurrence)
+    if found.at != other.at {
+        return found.at < other.at;
+    }
+    other.placed.occurrence.precedes(&found.placed.occurrence)
 }
 
 /// The sooner of the two, and of two that come at one instant the last.
@@ -123,17 +126,14 @@ fn sooner_with<'a, L: Ledger>(
     ) {
         None => soonest,
         Some(found) => {
-            if found.nominal() > window.limit {
+            if found.occurrence.nominal() > window.limit {
                 return soonest;
             }
-            if is_same(&soonest.occurrence, &found) {
+            if is_same(&soonest.placed, &found) {
                 return soonest;
             }
-            let at = instant_of(set, stdoff, &found, steps);
-            let found = Coming {
-                occurrence: found,
-                at,
-            };
+            let at = instant_of(set, stdoff, &found.occurrence, steps);
+            let found = Coming { placed: found, at };
             sooner(soonest, found)
         }
     }
@@ -166,7 +166,7 @@ fn soonest<'a, L: Ledger>(
 fn first_to_come<'a, L: Ledger>(
     set: &'a RuleSet,
     stdoff: i64,
-    state: &Option<RuleYear<'_>>,
+    state: &Option<Placed<'_>>,
     steps: &mut Steps<L>,
 ) -> Option<Coming<'a>>
     requires { IsShift stdoff }
@@ -176,11 +176,8 @@ fn first_to_come<'a, L: Ledger>(
     match first_after_mark(set, mark_after(state), steps) {
         None => None,
         Some(first) => {
-            let at = first.instant_after(stdoff, save_by(state));
-            Some(Coming {
-                occurrence: first,
-                at,
-            })
+            let at = first.occurrence.instant_after(stdoff, save_by(state));
+            Some(Coming { placed: first, at })
         }
     }
 }
@@ -201,7 +198,7 @@ pub(crate) fn next_change<'a, L: Ledger>(
     match first_to_come(set, stdoff, &state, steps) {
         None => None,
         Some(first) => {
-            let window = window_from(mark_after(&state), &first.occurrence);
+            let window = window_from(mark_after(&state), &first.placed);
             Some(soonest(first, set, stdoff, window, steps))
         }
     }

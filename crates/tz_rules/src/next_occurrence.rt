@@ -6,7 +6,8 @@ ghost use Rattle.tz_rules.specs.Mark.{IsInReach, IsEarliestYear};
 ghost use Rattle.tz_rules.specs.Search.{IsFirstOfRule, IsFirstFrom, IsFirstAfter, IsNextOf, through_of, earlier_of};
 
 use crate::mark::{Mark, earliest_year};
-use crate::rule_year::RuleYear;
+use crate::occurrences::Occurrence;
+use crate::placed::Placed;
 use crate::years::{LAST_YEAR, first_year, last_year, years_after, years_through};
 use std::sync::ledger::Ledger;
 use tz_types::{Rule, RuleSet, Steps};
@@ -20,7 +21,7 @@ pub(crate) fn first_of_rule<'a, L: Ledger>(
     through: i32,
     mark: Mark,
     steps: &mut Steps<L>,
-) -> Option<RuleYear<'a>>
+) -> Option<Placed<'a>>
     requires earliest_in { IsYear earliest }
     requires through_in { IsYear through }
     requires earliest { IsEarliestYear mark.second earliest }
@@ -30,8 +31,8 @@ pub(crate) fn first_of_rule<'a, L: Ledger>(
     let first = first_year(rule, earliest);
     let last = last_year(rule, through);
     for on in 0..years_through(first, last) {
-        let found = RuleYear::look(rule, place, years_after(first, on), steps);
-        if found.is_after(mark) {
+        let found = Placed::look(rule, place, years_after(first, on), steps);
+        if found.occurrence.is_after(mark) {
             return Some(found);
         }
     }
@@ -39,35 +40,41 @@ pub(crate) fn first_of_rule<'a, L: Ledger>(
 }
 
 /// The last year in which an occurrence may come earlier than this one.
-fn year_through(first: &Option<RuleYear<'_>>) -> i32
+fn year_through(first: &Option<Placed<'_>>) -> i32
     ensures value { result ≡ through_of first.now }
     ensures bound { IsYear result }
 {
     match first {
         None => LAST_YEAR,
-        Some(first) => first.year() + 1,
+        Some(first) => first.occurrence.year() + 1,
     }
 }
 
 /// The earlier of the two, where there may be only one.
-fn earlier<'a>(first: Option<RuleYear<'a>>, found: RuleYear<'a>) -> RuleYear<'a>
+fn earlier<'a>(first: Option<Placed<'a>>, found: Placed<'a>) -> Placed<'a>
     ensures { result ≡ earlier_of first.entry found.entry }
 {
     match first {
         None => found,
-        Some(first) => { if found.precedes(&first) { found } else { first } }
+        Some(first) => {
+            if found.occurrence.precedes(&first.occurrence) {
+                found
+            } else {
+                first
+            }
+        }
     }
 }
 
 /// The first occurrence after the mark of the rules from a place on, where that of the rules after it is known.
 fn first_with<'a, L: Ledger>(
-    first: Option<RuleYear<'a>>,
+    first: Option<Placed<'a>>,
     set: &'a RuleSet,
     place: usize,
     earliest: i32,
     mark: Mark,
     steps: &mut Steps<L>,
-) -> Option<RuleYear<'a>>
+) -> Option<Placed<'a>>
     requires place_in { place < length set.now.rules }
     requires so_far { IsFirstFrom set.now mark (place + 1) first }
     requires earliest_in { IsYear earliest }
@@ -91,7 +98,7 @@ pub(crate) fn first_after_mark<'a, L: Ledger>(
     set: &'a RuleSet,
     mark: Mark,
     steps: &mut Steps<L>,
-) -> Option<RuleYear<'a>>
+) -> Option<Placed<'a>>
     requires { IsInReach mark.second }
     ensures first { IsFirstAfter set.now mark result }
     ensures steps { steps.new ≤ steps.old + 3 * length set.now.rules }
@@ -108,11 +115,11 @@ pub(crate) fn first_after_mark<'a, L: Ledger>(
 /// The occurrence right after this one.
 pub(crate) fn first_after<'a, L: Ledger>(
     set: &'a RuleSet,
-    occurrence: &RuleYear<'_>,
+    occurrence: &Occurrence<'_>,
     steps: &mut Steps<L>,
-) -> Option<RuleYear<'a>>
-    requires { IsOccurrence set.now occurrence.now.occurrence }
-    ensures first { IsNextOf set.now occurrence.now.occurrence result }
+) -> Option<Placed<'a>>
+    requires { IsOccurrence set.now occurrence.now }
+    ensures first { IsNextOf set.now occurrence.now result }
     ensures steps { steps.new ≤ steps.old + 3 * length set.now.rules }
 {
     first_after_mark(set, occurrence.mark(), steps)

@@ -5,7 +5,8 @@ ghost use Rattle.tz_rules.specs.Mark.{IsInReach, IsLatestYear};
 ghost use Rattle.tz_rules.specs.Search.{IsLastOfRule, IsLastFrom, IsLastBefore, IsLastBy, IsPreviousOf, since_of, later_of};
 
 use crate::mark::{Mark, latest_year};
-use crate::rule_year::RuleYear;
+use crate::occurrences::Occurrence;
+use crate::placed::Placed;
 use crate::years::{FIRST_YEAR, first_year, last_year, years_before, years_through};
 use std::sync::ledger::Ledger;
 use tz_types::{Rule, RuleSet, Steps};
@@ -19,7 +20,7 @@ pub(crate) fn last_of_rule<'a, L: Ledger>(
     latest: i32,
     mark: Mark,
     steps: &mut Steps<L>,
-) -> Option<RuleYear<'a>>
+) -> Option<Placed<'a>>
     requires since_in { IsYear since }
     requires latest_in { IsYear latest }
     requires latest { IsLatestYear mark.second latest }
@@ -29,8 +30,8 @@ pub(crate) fn last_of_rule<'a, L: Ledger>(
     let first = first_year(rule, since);
     let last = last_year(rule, latest);
     for back in 0..years_through(first, last) {
-        let found = RuleYear::look(rule, place, years_before(last, back), steps);
-        if found.is_before(mark) {
+        let found = Placed::look(rule, place, years_before(last, back), steps);
+        if found.occurrence.is_before(mark) {
             return Some(found);
         }
     }
@@ -38,35 +39,41 @@ pub(crate) fn last_of_rule<'a, L: Ledger>(
 }
 
 /// The first year in which an occurrence may come later than this one.
-fn year_since(last: &Option<RuleYear<'_>>) -> i32
+fn year_since(last: &Option<Placed<'_>>) -> i32
     ensures value { result ≡ since_of last.now }
     ensures bound { IsYear result }
 {
     match last {
         None => FIRST_YEAR,
-        Some(last) => last.year() - 1,
+        Some(last) => last.occurrence.year() - 1,
     }
 }
 
 /// The later of the two, where there may be only one.
-fn later<'a>(last: Option<RuleYear<'a>>, found: RuleYear<'a>) -> RuleYear<'a>
+fn later<'a>(last: Option<Placed<'a>>, found: Placed<'a>) -> Placed<'a>
     ensures { result ≡ later_of last.entry found.entry }
 {
     match last {
         None => found,
-        Some(last) => { if last.precedes(&found) { found } else { last } }
+        Some(last) => {
+            if last.occurrence.precedes(&found.occurrence) {
+                found
+            } else {
+                last
+            }
+        }
     }
 }
 
 /// The last occurrence before the mark of the rules from a place on, where that of the rules after it is known.
 fn last_with<'a, L: Ledger>(
-    last: Option<RuleYear<'a>>,
+    last: Option<Placed<'a>>,
     set: &'a RuleSet,
     place: usize,
     latest: i32,
     mark: Mark,
     steps: &mut Steps<L>,
-) -> Option<RuleYear<'a>>
+) -> Option<Placed<'a>>
     requires place_in { place < length set.now.rules }
     requires so_far { IsLastFrom set.now mark (place + 1) last }
     requires latest_in { IsYear latest }
@@ -90,7 +97,7 @@ pub(crate) fn last_before_mark<'a, L: Ledger>(
     set: &'a RuleSet,
     mark: Mark,
     steps: &mut Steps<L>,
-) -> Option<RuleYear<'a>>
+) -> Option<Placed<'a>>
     requires { IsInReach mark.second }
     ensures last { IsLastBefore set.now mark result }
     ensures steps { steps.new ≤ steps.old + 3 * length set.now.rules }
@@ -109,7 +116,7 @@ pub(crate) fn last_by<'a, L: Ledger>(
     set: &'a RuleSet,
     second: i64,
     steps: &mut Steps<L>,
-) -> Option<RuleYear<'a>>
+) -> Option<Placed<'a>>
     requires { IsInReach (second +ℤ pos 1) }
     ensures last { IsLastBy set.now second result }
     ensures steps { steps.new ≤ steps.old + 3 * length set.now.rules }
@@ -124,10 +131,10 @@ pub(crate) fn last_by<'a, L: Ledger>(
 /// The occurrence right before this one.
 pub(crate) fn last_before<'a, L: Ledger>(
     set: &'a RuleSet,
-    occurrence: &RuleYear<'_>,
+    occurrence: &Occurrence<'_>,
     steps: &mut Steps<L>,
-) -> Option<RuleYear<'a>>
-    ensures last { IsPreviousOf set.now occurrence.now.occurrence result }
+) -> Option<Placed<'a>>
+    ensures last { IsPreviousOf set.now occurrence.now result }
     ensures steps { steps.new ≤ steps.old + 3 * length set.now.rules }
 {
     last_before_mark(set, occurrence.mark(), steps)

@@ -10,7 +10,7 @@ ghost use Rattle.tz_rules.specs.Taken.{IsTakenOccurrence, IsTakenAt, IsLastTaken
 use crate::in_effect::{in_effect, near_time};
 use crate::instant::instant_of;
 use crate::next_change::next_change;
-use crate::rule_year::RuleYear;
+use crate::placed::Placed;
 use std::sync::ledger::Ledger;
 use tz_types::{RuleSet, Steps};
 
@@ -23,15 +23,15 @@ pub struct Taken {
 }
 
 /// The occurrence as it is told.
-fn taken_of(set: &RuleSet, occurrence: &RuleYear<'_>, at: i64) -> Taken
-    requires { StandsIn set.now occurrence.now }
-    ensures tells { IsTakenOccurrence set.now result occurrence.now.occurrence }
+fn taken_of(set: &RuleSet, placed: &Placed<'_>, at: i64) -> Taken
+    requires { StandsIn set.now placed.now }
+    ensures tells { IsTakenOccurrence set.now result placed.now.occurrence }
     ensures at { result.at ≡ at }
 {
     let _ = set;
     Taken {
-        rule: occurrence.place() as u32,
-        year: occurrence.year(),
+        rule: placed.place as u32,
+        year: placed.occurrence.year(),
         at,
     }
 }
@@ -62,9 +62,9 @@ fn last_taken<L: Ledger>(set: &RuleSet, stdoff: i64, t: i64, steps: &mut Steps<L
 {
     match in_effect(set, stdoff, near_time(t), steps) {
         None => None,
-        Some(occurrence) => {
-            let at = instant_of(set, stdoff, &occurrence, steps);
-            Some(taken_of(set, &occurrence, at))
+        Some(placed) => {
+            let at = instant_of(set, stdoff, &placed.occurrence, steps);
+            Some(taken_of(set, &placed, at))
         }
     }
 }
@@ -96,6 +96,6 @@ fn next_taken<L: Ledger>(set: &RuleSet, stdoff: i64, t: i64, steps: &mut Steps<L
 {
     match next_change(set, stdoff, near_time(t), steps) {
         None => None,
-        Some(coming) => Some(taken_of(set, &coming.occurrence, coming.at)),
+        Some(coming) => Some(taken_of(set, &coming.placed, coming.at)),
     }
 }

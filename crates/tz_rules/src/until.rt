@@ -14,8 +14,8 @@ ghost use Rattle.tz_rules.specs.Passed.{Passed, NoneBy, PassesFirst, PassesNext}
 
 use crate::mark::Mark;
 use crate::next_occurrence::{first_after, first_after_mark};
+use crate::placed::Placed;
 use crate::previous_occurrence::last_by;
-use crate::rule_year::RuleYear;
 use crate::shift::{MOST_SHIFT, shift_of};
 use std::marker::Brand;
 use std::sync::ledger::{Blank, Ledger};
@@ -51,7 +51,7 @@ fn first_before<'a, L: Ledger>(
     until: &Until,
     second: i64,
     steps: &mut Steps<L>,
-) -> Option<RuleYear<'a>>
+) -> Option<Placed<'a>>
     requires stdoff_in { IsShift stdoff }
     requires in_reach { IsInReach second }
     requires none { NoneBy set.now second }
@@ -65,7 +65,7 @@ fn first_before<'a, L: Ledger>(
         Some(first) => first,
         None => return None,
     };
-    if first.instant_after(stdoff, 0) < until_with(until, stdoff, 0) {
+    if first.occurrence.instant_after(stdoff, 0) < until_with(until, stdoff, 0) {
         Some(first)
     } else {
         None
@@ -78,7 +78,7 @@ fn start<'a, L: Ledger>(
     stdoff: i64,
     until: &Until,
     steps: &mut Steps<L>,
-) -> Option<RuleYear<'a>>
+) -> Option<Placed<'a>>
     requires stdoff_in { IsShift stdoff }
     ensures { PassesFirst set.now stdoff until.now.year until.now.moment result }
 {
@@ -94,18 +94,19 @@ fn next_before<'a, L: Ledger>(
     set: &'a RuleSet,
     stdoff: i64,
     until: &Until,
-    under: &RuleYear<'a>,
+    under: &Placed<'a>,
     steps: &mut Steps<L>,
-) -> Option<RuleYear<'a>>
+) -> Option<Placed<'a>>
     requires stdoff_in { IsShift stdoff }
     requires passed { Passed set.now stdoff until.now.year until.now.moment under.now.occurrence }
     ensures { PassesNext set.now stdoff until.now.year until.now.moment under.now.occurrence result }
 {
-    let next = match first_after(set, under, steps) {
+    let next = match first_after(set, &under.occurrence, steps) {
         Some(next) => next,
         None => return None,
     };
-    if next.instant_after(stdoff, under.save()) < until_with(until, stdoff, under.save()) {
+    let save = under.occurrence.save();
+    if next.occurrence.instant_after(stdoff, save) < until_with(until, stdoff, save) {
         Some(next)
     } else {
         None
@@ -118,7 +119,7 @@ fn until_from<'a, L: Ledger>(
     set: &'a RuleSet,
     stdoff: i64,
     until: &Until,
-    start: RuleYear<'a>,
+    start: Placed<'a>,
     steps: &mut Steps<L>,
 ) -> i64
     requires stdoff_in { IsShift stdoff }
@@ -130,7 +131,7 @@ fn until_from<'a, L: Ledger>(
     while let Some(next) = next_before(set, stdoff, until, &under, steps) {
         under = next;
     }
-    until_with(until, stdoff, under.save())
+    until_with(until, stdoff, under.occurrence.save())
 }
 
 /// The instant of an UNTIL in a line that follows a rule set, where nobody asks for the count of steps.

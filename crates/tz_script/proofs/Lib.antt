@@ -1,7 +1,6 @@
 pub mod HoldNames
 pub mod WordCuts
 pub mod Soundness
-pub mod LineCuts
 pub mod Reading
 pub mod ScriptLaws
 pub mod HoldRules

@@ -1,10 +1,14 @@
-//! What a text says is settled by the text: laws of specs/Script.antt.
-ghost use Rattle.std.specs.Prelude.{◌≡◌, ℕ, ◌⊎◌, List, None, Ok};
+//! What a text says is settled by the text, and what scripts keep: laws of specs/Script.antt and specs/Size.antt.
+ghost use Rattle.std.specs.Prelude.{◌≡◌, ℕ, ◌≤◌, ◌<◌, ◌⊎◌, ℤ, pos, neg_ℤ, ◌<ℤ◌, List, None, Ok};
 ghost use Rattle.tz_types.specs.declared.fault.LineFault.{LineFault};
 ghost use Rattle.tz_script.specs.Contents.{ScriptContents};
 ghost use Rattle.tz_script.specs.Keeping.{KeepsHolds, KeepsSources};
 ghost use Rattle.tz_script.specs.Script.{script_contents_of, whole_fault, ReadsScript, RefusesScript};
 ghost use Rattle.tz_script.specs.Laws.{HasSameParts, IsReadable};
+ghost use Rattle.tz_script.specs.Size.{IsSized};
+ghost use Rattle.tz_output.specs.declared.conversion.Conversion.{Conversion};
+ghost use Rattle.tz_script.specs.declared.operation.Op.TheVariants as ops;
+ghost use Rattle.tz_script.specs.declared.operation.Pick.{Pick};
 ghost use Rattle.tz_script.specs.declared.script.Script.{Script as DeclaredScript};
 
 /// A text is read as at most one script.
@@ -32,6 +36,18 @@ pub fn read_scripts_keep_holds()
 /// Where a script is read, each text that it asks for is there.
 pub fn read_scripts_keep_sources()
     ensures { (sources : ℕ) (text : List ℕ) (script : DeclaredScript) → ReadsScript sources text script → KeepsSources sources script.operations }
+{}
+
+/// Of a sized operation the instant or the count has at most 15 digits, with either sign; the instants of a scan are at least a
+/// second apart, by a number of 32 bits, and there are from 1 to 65,536.
+pub fn numbers_of_sized_operations_have_few_digits()
+    ensures info { (v : Pick) (zone : List ℕ) (t : ℤ) → IsSized (ops.Info v zone t) →
+        (neg_ℤ (pos 1_000_000_000_000_000) <ℤ t) × (t <ℤ pos 1_000_000_000_000_000) }
+    ensures scan { (v : Pick) (zone : List ℕ) (from : ℤ) (step count : ℕ) → IsSized (ops.Scan v zone from step count) →
+        (neg_ℤ (pos 1_000_000_000_000_000) <ℤ from) × (from <ℤ pos 1_000_000_000_000_000)
+        × (1 ≤ step) × (step < 4_294_967_296) × (1 ≤ count) × (count ≤ 65_536) }
+    ensures clock { (v : Pick) (conv : Conversion) (x : ℤ) → IsSized (ops.Clock v conv x) →
+        (neg_ℤ (pos 1_000_000_000_000_000) <ℤ x) × (x <ℤ pos 1_000_000_000_000_000) }
 {}
 
 /// Each text gives contents, whose parts a script has, or is refused.

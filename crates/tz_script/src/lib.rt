@@ -35,7 +35,6 @@ mod keyword;
 mod laws;
 mod limit;
 mod line;
-mod lines;
 mod op_reader;
 mod operand;
 mod operation;
@@ -49,7 +48,8 @@ pub use error::ScriptError;
 pub use hold_name::HoldName;
 pub use laws::{
     at_most_one_script, at_most_one_script_fault, each_script_is_read_or_refused,
-    read_scripts_are_not_refused, read_scripts_keep_holds, read_scripts_keep_sources,
+    numbers_of_sized_operations_have_few_digits, read_scripts_are_not_refused,
+    read_scripts_keep_holds, read_scripts_keep_sources,
 };
 pub use limit::{
     LAST_SOURCE, LONGEST_HOLD_NAME, LONGEST_LINE, LONGEST_STEP, MOST_CHANGES, MOST_HOLDS,

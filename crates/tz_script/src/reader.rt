@@ -14,10 +14,10 @@ use crate::cause::ScriptCause;
 use crate::error::ScriptError;
 use crate::gathered::Gathered;
 use crate::line::read_line;
-use crate::lines::next_line;
 use crate::script::Script;
 use crate::words::{before_comment, is_bad_line, next_word};
 use std::alloc::Global;
+use tz_text::next_line;
 use tz_types::LineFault;
 
 /// Why the script is refused at a line.

@@ -8,3 +8,4 @@ pub mod Bounds
 pub mod SecondOfDay
 pub mod Steps
 pub mod Spans
+pub mod LineCuts

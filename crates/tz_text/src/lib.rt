@@ -1,6 +1,6 @@
 //! Readers of what stands in a line of a text, and one writer of numbers.
 //!
-//! The layer above takes the fields of a line, and has each read as a year, an amount of time, a day of a month
+//! The layer above cuts a text into lines by `next_line`. It takes the fields of a line, and has each read as a year, an amount of time, a day of a month
 //! or a name cut short. What each means is defined in `tz_specs`; nothing here allocates but where it is said.
 //!
 //! ```rust
@@ -22,6 +22,7 @@ mod day;
 mod digits;
 mod duration;
 mod kept;
+mod lines;
 mod local;
 mod output;
 mod second;
@@ -33,6 +34,7 @@ pub use day::on;
 pub use digits::{number, signed_number, year};
 pub use duration::Amount;
 pub use kept::MOST_KEPT;
+pub use lines::{may_have_nul, next_line};
 pub use local::local_time;
 pub use output::put_number;
 pub use second::second_of_day;

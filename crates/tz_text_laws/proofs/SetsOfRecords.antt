@@ -1,4 +1,5 @@
--- The rules of a set are those of the Rule records of its name, and the links are those of the Link records, in their order.
+-- The rules of a set are those of the Rule records of its name, the links are those of the Link records, and the zones those of
+-- the Zone records with the lines that continue them, all in their order.
 use Rattle.std.proofs.Common.{◌≡◌, ℕ, ◌+◌, Bool, true, false, IsTrue, List, [], ◌∷◌, ◌++◌, length, map, filter_map, Option, Some, None, Result, Ok, Err, refl, sym, ap, ◌∙◌, ⊎_elim, subst, append_assoc, append-nil}
 use Rattle.std.specs.List.{cons_option}
 use Rattle.std.proofs.lemmas.Bool.{cases_Bool}
@@ -9,11 +10,11 @@ use Rattle.tz_types.specs.declared.fault.LineFault.{LineFault}
 use Rattle.tz_specs.specs.Choice.{only_if}
 use Rattle.tz_specs.specs.Line.{lines_of}
 use Rattle.tz_specs.specs.Value.{is_exactly}
-use Rattle.tz_specs.specs.Written.{WrittenRule, WrittenSet, Record, RuleRecord, ZoneRecord, Continuation, LinkRecord}
-use Rattle.tz_specs.specs.Contents.{Contents, no_contents, at_end_of_file, is_set_named, with_rule, with_record, line_says, contents_after, contents_over, contents_of}
+use Rattle.tz_specs.specs.Written.{WrittenRule, WrittenSet, WrittenLine, WrittenZone, Record, RuleRecord, ZoneRecord, Continuation, LinkRecord}
+use Rattle.tz_specs.specs.Contents.{Contents, no_contents, at_end_of_file, is_set_named, with_rule, with_line, with_record, line_says, contents_after, contents_over, contents_of}
 use Rattle.tz_specs.proofs.AscendingLemmas.{never_before_itself, before_later, both_hold, ascends_later}
 use Rattle.tz_lines.proofs.GatheredLines.{given_by, after_line, after_all, files_after, after_file, over_all, files_from_none}
-use Rattle.tz_text_laws.specs.Records.{records_after, records_over, records_of, rule_named, rules_in, link_said}
+use Rattle.tz_text_laws.specs.Records.{records_after, records_over, records_of, rule_named, rules_in, link_said, continued, zones_said}
 use Rattle.tz_text_laws.proofs.Names.{same_name}
 use Rattle.tz_text_laws.proofs.GoodContents.{GoodContents, said_good, contents_good, ended, none_good}
 
@@ -94,6 +95,64 @@ links_said (ZoneRecord name line) contents = sym (append-nil contents.links)
 links_said (Continuation line) contents = sym (append-nil contents.links)
 links_said (LinkRecord link) contents = refl
 
+-- ---- one more zone, or one more line of the last zone
+
+-- the zones with one more record
+abbrev with_zone : Record → List WrittenZone → List WrittenZone
+with_zone (RuleRecord name rule) zones = zones
+with_zone (ZoneRecord name line) zones = zones ++ record { name = name; lines = line ∷ [] } ∷ []
+with_zone (Continuation line) zones = with_line line zones
+with_zone (LinkRecord link) zones = zones
+
+zones_with : (said : Record) (contents : Contents) → (with_record said contents).zones ≡ with_zone said contents.zones
+zones_with (RuleRecord name rule) contents = refl
+zones_with (ZoneRecord name line) contents = refl
+zones_with (Continuation line) contents = refl
+zones_with (LinkRecord link) contents = refl
+
+-- the zones with more records, one after another
+abbrev zones_after : List WrittenZone → List Record → List WrittenZone
+zones_after zones [] = zones
+zones_after zones (said ∷ records) = zones_after (with_zone said zones) records
+
+zones_after-append : (zones : List WrittenZone) (here there : List Record) → zones_after zones (here ++ there) ≡ zones_after (zones_after zones here) there
+zones_after-append zones [] there = refl
+zones_after-append zones (said ∷ here) there = zones_after-append (with_zone said zones) here there
+
+-- the zones with more lines of the last one
+abbrev with_lines : List WrittenLine → List WrittenZone → List WrittenZone
+with_lines [] zones = zones
+with_lines (line ∷ lines) zones = with_lines lines (with_line line zones)
+
+with_lines-none : (lines : List WrittenLine) → with_lines lines [] ≡ []
+with_lines-none [] = refl
+with_lines-none (line ∷ lines) = with_lines-none lines
+
+with_line-last : (line : WrittenLine) (zones : List WrittenZone) (name : List ℕ) (lines : List WrittenLine) → with_line line (zones ++ record { name = name; lines = lines } ∷ []) ≡ zones ++ record { name = name; lines = lines ++ line ∷ [] } ∷ []
+with_line-last line [] name lines = refl
+with_line-last line (zone ∷ []) name lines = refl
+with_line-last line (zone ∷ next ∷ zones) name lines =
+    ap (λ it. zone ∷ it) (with_line-last line (next ∷ zones) name lines)
+
+with_lines-last : (more : List WrittenLine) (zones : List WrittenZone) (name : List ℕ) (lines : List WrittenLine) → with_lines more (zones ++ record { name = name; lines = lines } ∷ []) ≡ zones ++ record { name = name; lines = lines ++ more } ∷ []
+with_lines-last [] zones name lines =
+    ap (λ it. zones ++ record { name = name; lines = it } ∷ []) (sym (append-nil lines))
+with_lines-last (line ∷ more) zones name lines =
+    ap (with_lines more) (with_line-last line zones name lines) ∙ with_lines-last more zones name (lines ++ line ∷ []) ∙ ap (λ it. zones ++ record { name = name; lines = it } ∷ []) (append_assoc lines (line ∷ []) more)
+
+zones_after-said : (zones : List WrittenZone) (records : List Record) → zones_after zones records ≡ with_lines (continued records) zones ++ zones_said records
+zones_after-said zones [] = sym (append-nil zones)
+zones_after-said zones (RuleRecord name rule ∷ records) = zones_after-said zones records
+zones_after-said zones (ZoneRecord name line ∷ records) =
+    let own : WrittenZone = record { name = name; lines = line ∷ [] } in
+    zones_after-said (zones ++ own ∷ []) records ∙ ap (λ it. it ++ zones_said records) (with_lines-last (continued records) zones name (line ∷ [])) ∙ append_assoc zones (record { name = name; lines = line ∷ continued records } ∷ []) (zones_said records)
+zones_after-said zones (Continuation line ∷ records) = zones_after-said (with_line line zones) records
+zones_after-said zones (LinkRecord link ∷ records) = zones_after-said zones records
+
+zones_after-none : (records : List Record) → zones_after [] records ≡ zones_said records
+zones_after-none records =
+    zones_after-said [] records ∙ ap (λ it. it ++ zones_said records) (with_lines-none (continued records))
+
 -- ---- lines, and then files
 
 cons_then : {A : Type 0} (first : Option A) (later : List A) → cons_option first [] ++ later ≡ cons_option first later
@@ -109,6 +168,7 @@ one_then before between after said later step rest =
 record Gives (number : ℕ) (contents final : Contents) (records : List Record) : Type 0 where
   rules : (wanted : List ℕ) → rules_in wanted final.sets ≡ rules_in wanted contents.sets ++ filter_map (rule_named wanted) records
   links : final.links ≡ contents.links ++ filter_map link_said records
+  zones : final.zones ≡ zones_after contents.zones records
 
 -- the records of a line and those behind it, by what the line says
 abbrev records_by : Contents → ℕ → List (List ℕ) → Result (Option Record) Cause → List Record
@@ -125,7 +185,7 @@ records_are contents number line lines (Err cause) is = rw (records_after, is) r
 by_line : (contents final : Contents) (number : ℕ) (line : List ℕ) (lines : List (List ℕ)) (said : Result (Option Record) Cause) → line_says contents number line ≡ said → given_by contents number lines said ≡ Ok final → GoodContents number contents → ((next : Contents) → GoodContents (number + 1) next → contents_after next (number + 1) lines ≡ Ok final → Gives (number + 1) next final (records_after next (number + 1) lines)) → Gives number contents final (records_by contents number lines said)
 by_line contents final number line lines (Ok None) e given good next =
     let later = next contents (said_good number contents line None good e) given in
-    record { rules = later.rules; links = later.links }
+    record { rules = later.rules; links = later.links; zones = later.zones }
 by_line contents final number line lines (Ok (Some said)) e given good next =
     let between = with_record said contents in
     let records = records_after between (number + 1) lines in
@@ -133,6 +193,7 @@ by_line contents final number line lines (Ok (Some said)) e given good next =
     record {
       rules = λ wanted. one_then (rules_in wanted contents.sets) (rules_in wanted between.sets) (rules_in wanted final.sets) (rule_named wanted said) (filter_map (rule_named wanted) records) (rules_said wanted said contents good.sets_ascend) (later.rules wanted);
       links = one_then contents.links between.links final.links (link_said said) (filter_map link_said records) (links_said said contents) later.links;
+      zones = later.zones ∙ ap (λ it. zones_after it records) (zones_with said contents);
     }
 by_line contents final number line lines (Err cause) e given good next = cc
 
@@ -143,6 +204,7 @@ lines_give contents final number [] good given =
     record {
       rules = λ wanted. ap (λ (it : Contents). rules_in wanted it.sets) (sym same) ∙ sym (append-nil (rules_in wanted contents.sets));
       links = ap (λ (it : Contents). it.links) (sym same) ∙ sym (append-nil contents.links);
+      zones = ap (λ (it : Contents). it.zones) (sym same);
     }
 lines_give contents final number (line ∷ lines) good given =
     let says = line_says contents number line in
@@ -176,6 +238,7 @@ by_file contents final number file files (Ok after) e given good next =
     record {
       rules = λ wanted. more_then (rules_in wanted contents.sets) (rules_in wanted after.sets) (rules_in wanted final.sets) (filter_map (rule_named wanted) here) (filter_map (rule_named wanted) there) (first.rules wanted) (later.rules wanted) ∙ ap (λ it. rules_in wanted contents.sets ++ it) (sym (filter_map-append (rule_named wanted) here there));
       links = more_then contents.links after.links final.links (filter_map link_said here) (filter_map link_said there) first.links later.links ∙ ap (λ it. contents.links ++ it) (sym (filter_map-append link_said here there));
+      zones = later.zones ∙ ap (λ it. zones_after it there) first.zones ∙ sym (zones_after-append contents.zones here there);
     }
 by_file contents final number file files (Err fault) e given good next = cc
 
@@ -186,6 +249,7 @@ over_give contents final number [] good given =
     record {
       rules = λ wanted. ap (λ (it : Contents). rules_in wanted it.sets) (sym same) ∙ sym (append-nil (rules_in wanted contents.sets));
       links = ap (λ (it : Contents). it.links) (sym same) ∙ sym (append-nil contents.links);
+      zones = ap (λ (it : Contents). it.zones) (sym same);
     }
 over_give contents final number (file ∷ files) good given =
     let outcome = contents_after contents number (lines_of file) in
@@ -201,3 +265,7 @@ rules_of_records files contents name given = (files_give files contents given).r
 
 pub links_of_records : (files : List (List ℕ)) (contents : Contents) → contents_of files ≡ Ok contents → contents.links ≡ filter_map link_said (records_of files)
 links_of_records files contents given = (files_give files contents given).links
+
+pub zones_of_records : (files : List (List ℕ)) (contents : Contents) → contents_of files ≡ Ok contents → contents.zones ≡ zones_said (records_of files)
+zones_of_records files contents given =
+    (files_give files contents given).zones ∙ zones_after-none (records_of files)

@@ -3,7 +3,7 @@ use Rattle.std.specs.Prelude.{ℕ, ◌+◌, List, [], ◌∷◌, ◌++◌, lengt
 use Rattle.tz_specs.specs.Choice.{only_if}
 use Rattle.tz_specs.specs.Line.{lines_of}
 use Rattle.tz_specs.specs.Value.{is_exactly}
-use Rattle.tz_specs.specs.Written.{WrittenRule, WrittenSet, WrittenLink, Record, RuleRecord, ZoneRecord, Continuation, LinkRecord}
+use Rattle.tz_specs.specs.Written.{WrittenRule, WrittenSet, WrittenLine, WrittenZone, WrittenLink, Record, RuleRecord, ZoneRecord, Continuation, LinkRecord}
 use Rattle.tz_specs.specs.Contents.{Contents, no_contents, at_end_of_file, is_set_named, with_said, line_says, contents_after}
 
 -- the records that lines say, by what stands before them
@@ -53,3 +53,20 @@ link_said (RuleRecord name rule) = None
 link_said (ZoneRecord name line) = None
 link_said (Continuation line) = None
 link_said (LinkRecord link) = Some link
+
+-- the lines that continue a zone: those of the Continuation records up to the next Zone record
+abbrev pub continued : List Record → List WrittenLine
+continued [] = []
+continued (RuleRecord name rule ∷ records) = continued records
+continued (ZoneRecord name line ∷ records) = []
+continued (Continuation line ∷ records) = line ∷ continued records
+continued (LinkRecord link ∷ records) = continued records
+
+-- the zone of each Zone record, with the lines that continue it
+abbrev pub zones_said : List Record → List WrittenZone
+zones_said [] = []
+zones_said (RuleRecord name rule ∷ records) = zones_said records
+zones_said (ZoneRecord name line ∷ records) =
+    record { name = name; lines = line ∷ continued records } ∷ zones_said records
+zones_said (Continuation line ∷ records) = zones_said records
+zones_said (LinkRecord link ∷ records) = zones_said records

@@ -22,7 +22,7 @@ ghost use Rattle.tz_specs.specs.Sound.{is_sound};
 ghost use Rattle.tz_specs.specs.Reads.{Reads, Refuses};
 ghost use Rattle.tz_text_laws.specs.Version.{IsVersionGiven};
 ghost use Rattle.tz_text_laws.specs.LeadsTo.{LeadsTo};
-ghost use Rattle.tz_text_laws.specs.Records.{records_of, rule_named, rules_in, link_said};
+ghost use Rattle.tz_text_laws.specs.Records.{records_of, rule_named, rules_in, link_said, zones_said};
 
 /// Each source is read as a database, or refused with a fault.
 pub fn each_source_is_read_or_refused()
@@ -52,6 +52,13 @@ pub fn sets_and_links_are_those_of_records()
         rules_in name contents.sets ≡ filter_map (rule_named name) (records_of files) }
     ensures links { (files : List (List ℕ)) (contents : Contents) → contents_of files ≡ Ok contents →
         contents.links ≡ filter_map link_said (records_of files) }
+{}
+
+/// The zones are those of the Zone records, in the order of the lines of all files. The lines of each are that of its Zone record
+/// and those of the Continuation records up to the next Zone record.
+pub fn zones_are_those_of_records()
+    ensures { (files : List (List ℕ)) (contents : Contents) → contents_of files ≡ Ok contents →
+        contents.zones ≡ zones_said (records_of files) }
 {}
 
 /// A link of a database that a source is read as has the place of the zone that its target reaches.

@@ -21,31 +21,11 @@ use crate::octets::{put_first_block, put_header, put_numbers, put_times, put_typ
 use crate::types::{MOST_TYPES, keep_after, merge, types_of};
 use crate::{LocalType, TzifError};
 use std::alloc::Global;
-use std::marker::Brand;
-use std::sync::ledger::{Blank, Ledger};
-use tz_expand::{CompiledZone, expand_between};
-use tz_types::{Abbrev, NoMemory, Steps, SysInfo};
+use tz_expand::{CompiledZone, expand_uncounted};
+use tz_types::{Abbrev, NoMemory, SysInfo};
 
 /// The footer, with no rule between its newlines.
 const FOOTER: &[u8] = b"\n\n";
-
-/// The ranges of the zone that meet the stretch, where the steps are counted by `blank` and told to nobody.
-fn expand_uncounted<L: Ledger>(
-    alloc: Global,
-    zone: &CompiledZone,
-    a: i64,
-    b: i64,
-    blank: Blank,
-) -> Result<Vec<SysInfo>, NoMemory>
-    requires name { blank.name ≡ L.name }
-    requires parts { blank.parts ≡ L.parts }
-    requires counts { 0 < blank.parts }
-    requires stretch { IsStretch a b }
-    ensures { IfOk result (λ ranges. ranges.items ≡ ranges_between zone.now a b) }
-{
-    let mut steps = Steps::<L>::new(blank);
-    expand_between(alloc, zone, a, b, &mut steps)
-}
 
 /// A length as a count of four octets. A list that is longer has no room in a file: it counts as want of memory.
 fn count_of(len: usize) -> Result<u32, NoMemory>
@@ -157,6 +137,6 @@ pub fn tzif(alloc: Global, zone: &CompiledZone, a: i64, b: i64) -> Result<Vec<u8
     ensures answers { Answers a (ranges_between zone.now a b) result }
     ensures means { IfOk result (λ file. (t : ℤ) (range : SysInfo) → a ≤ℤ t → t <ℤ b → range_at (expansion_of zone.now) t ≡ Some range → (local_type : LocalType) → IsMeaning file.items t local_type ↔ (local_type ≡ type_of range)) }
 {
-    let ranges = expand_uncounted::<Brand>(alloc, zone, a, b, Blank::new(1))?;
+    let ranges = expand_uncounted(alloc, zone, a, b)?;
     spelling(alloc, ranges, a)
 }

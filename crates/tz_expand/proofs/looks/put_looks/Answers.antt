@@ -5,8 +5,8 @@ use Rattle.tz_expand.specs.Looks.{since, through}
 use Rattle.tz_expand.proofs.LookLemmas.{within_years, look_low, look_high, since-years, through-years, look_pushed}
 use Rattle.tz_expand.proofs.looks.put_looks.Goals as goal
 
-pub look-requires-clause-year_in : goal.look-requires-clause-year_in
-look-requires-clause-year_in g c =
+pub look-requires : goal.look-requires
+look-requires g c =
     let year_fits : FitsSigned w32 c.ahead.result = search rules in
     let rule = c.args.rule.now in
     let years = c.of_rule-years in
@@ -14,24 +14,11 @@ look-requires-clause-year_in g c =
     let high : years.result.last ≤ℤ through rule = rw years.ensures.last (look_high (since rule) (through rule) c.args.near.last) in
     let within = within_years years.result.first years.result.last c.loop-ahead.ahead (omega arith) in
     let year = c.ahead.ensures in
-    (omega (arith, ints, since-years rule years.result.first low), omega (arith, ints, through-years rule years.result.last high))
-
-pub look-requires-clause-since : goal.look-requires-clause-since
-look-requires-clause-since g c =
-    let year_fits : FitsSigned w32 c.ahead.result = search rules in
-    let rule = c.args.rule.now in
-    let years = c.of_rule-years in
-    let low : since rule ≤ℤ years.result.first = rw years.ensures.first (look_low (since rule) (through rule) c.args.near.first) in
-    omega (arith, ints, since-years rule years.result.first low)
-
-pub look-requires-clause-through : goal.look-requires-clause-through
-look-requires-clause-through g c =
-    let year_fits : FitsSigned w32 c.ahead.result = search rules in
-    let rule = c.args.rule.now in
-    let years = c.of_rule-years in
-    let high : years.result.last ≤ℤ through rule = rw years.ensures.last (look_high (since rule) (through rule) c.args.near.last) in
-    let within = within_years years.result.first years.result.last c.loop-ahead.ahead (omega arith) in
-    omega (arith, ints, through-years rule years.result.last high)
+    record {
+      since = omega (arith, ints, since-years rule years.result.first low);
+      through = omega (arith, ints, through-years rule years.result.last high);
+      year_in = (omega (arith, ints, since-years rule years.result.first low), omega (arith, ints, through-years rule years.result.last high));
+    }
 
 pub loop-ahead-preserved : goal.loop-ahead-preserved
 loop-ahead-preserved g c =

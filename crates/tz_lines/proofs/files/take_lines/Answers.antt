@@ -2,7 +2,7 @@ use Rattle.std.proofs.Common.{◌≡◌, ◌+◌, [], ◌∷◌, length, sym, ap
 use Rattle.tz_specs.specs.Line.{lines_of}
 use Rattle.tz_specs.specs.Contents.{contents_after}
 use Rattle.tz_lines.specs.Gathered.{contents_gathered}
-use Rattle.tz_lines.proofs.Lines.{nothing_left, lines-none}
+use Rattle.tz_text.proofs.LineCuts.{nothing_left, lines-none}
 use Rattle.tz_lines.proofs.GatheredLines.{after_all}
 use Rattle.tz_lines.proofs.files.take_lines.Goals as goal
 

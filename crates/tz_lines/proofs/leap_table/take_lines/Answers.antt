@@ -3,7 +3,7 @@ use Rattle.tz_specs.specs.Line.{lines_of}
 use Rattle.tz_specs.specs.LeapText.{leap_contents_after, leap_contents_of}
 use Rattle.tz_specs.proofs.LeapTextLemmas.{contents_end}
 use Rattle.tz_lines.specs.LeapContents.{contents_meant}
-use Rattle.tz_lines.proofs.Lines.{nothing_left, lines-none}
+use Rattle.tz_text.proofs.LineCuts.{nothing_left, lines-none}
 use Rattle.tz_lines.proofs.LeapLines.{from_none}
 use Rattle.tz_lines.proofs.leap_table.take_lines.Goals as goal
 

@@ -1,6 +1,6 @@
 use Rattle.std.proofs.Common.{◌≡◌, ◌+◌, [], length, ap, ◌∙◌, arith}
 use Rattle.tz_specs.specs.Line.{lines_of}
-use Rattle.tz_lines.proofs.Lines.{nothing_left, lines-none}
+use Rattle.tz_text.proofs.LineCuts.{nothing_left, lines-none}
 use Rattle.tz_lines.proofs.places.line_count.Goals as goal
 
 pub returns : goal.returns

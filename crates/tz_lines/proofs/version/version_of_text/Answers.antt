@@ -1,7 +1,7 @@
 use Rattle.std.proofs.Common.{sym, ap, ◌∙◌}
 use Rattle.tz_specs.specs.Line.{lines_of}
 use Rattle.tz_specs.specs.Reads.{version_of_text}
-use Rattle.tz_lines.proofs.Lines.{nothing_left}
+use Rattle.tz_text.proofs.LineCuts.{nothing_left}
 use Rattle.tz_lines.proofs.Versions.{version_none, version_first}
 use Rattle.tz_lines.proofs.version.version_of_text.Goals as goal
 

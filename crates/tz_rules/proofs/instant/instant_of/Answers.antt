@@ -10,4 +10,4 @@ returns-clause-comes g c =
     let save_fits : FitsSigned w64 c.save_by.result = search rules in
     let result_fits : FitsSigned w64 c.instant_after.result = search rules in
     let is = simp to_z-of_z at c.instant_after.ensures.value in
-    simp to_z-of_z (comes_under c.args.set.now c.args.stdoff c.args.occurrence.now.occurrence c.last_before-previous.result c.save_by.result c.instant_after.result c.last_before-previous.ensures.last c.save_by.ensures.value is)
+    simp to_z-of_z (comes_under c.args.set.now c.args.stdoff c.args.occurrence.now c.last_before-previous.result c.save_by.result c.instant_after.result c.last_before-previous.ensures.last c.save_by.ensures.value is)

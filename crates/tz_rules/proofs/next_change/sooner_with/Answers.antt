@@ -38,4 +38,4 @@ returns-else-is_same-clause-soonest g c =
     let here = rule_at c.args.set.now c.as_slice.result.now c.args.place rule c.as_slice.ensures c.requires.place_in c.index-as_slice-place.is in
     let comes = simp to_z-of_z at c.instant_of-at.ensures.comes in
     let is = simp to_z-of_z at c.sooner.ensures in
-    rw is (sooner_is c.args.set.now c.args.stdoff c.args.window c.args.place rule (record { occurrence = c.in-Some.found; at = c.instant_of-at.result }) c.args.soonest c.requires.stdoff_in c.requires.window here c.in-Some.ensures.first comes c.requires.so_far)
+    rw is (sooner_is c.args.set.now c.args.stdoff c.args.window c.args.place rule (record { placed = c.in-Some.found; at = c.instant_of-at.result }) c.args.soonest c.requires.stdoff_in c.requires.window here c.in-Some.ensures.first comes c.requires.so_far)

@@ -3,4 +3,4 @@ use Rattle.tz_rules.proofs.previous_occurrence.last_before.Goals as goal
 
 pub returns-clause-last : goal.returns-clause-last
 returns-clause-last g c =
-    previous_of_mark c.args.set.now c.args.occurrence.now.occurrence c.mark.result c.last_before_mark.result c.mark.ensures.value c.last_before_mark.ensures.last
+    previous_of_mark c.args.set.now c.args.occurrence.now c.mark.result c.last_before_mark.result c.mark.ensures.value c.last_before_mark.ensures.last

@@ -23,4 +23,4 @@ returns-in-Some-clause-last g c =
     let state = simp to_z-of_z at c.in-Some.ensures.state in
     let comes = simp to_z-of_z at c.instant_of-at.ensures.comes in
     let at = simp to_z-of_z at c.taken_of.ensures.at in
-    taken_at c.args.set.now c.args.stdoff c.args.t c.near_time.result c.in-Some.occurrence c.taken_of.result c.requires near state c.taken_of.ensures.tells (rw at comes)
+    taken_at c.args.set.now c.args.stdoff c.args.t c.near_time.result c.in-Some.placed c.taken_of.result c.requires near state c.taken_of.ensures.tells (rw at comes)

@@ -11,14 +11,13 @@ returns-in-None g c =
 pub returns-then-instant_after-until_with : goal.returns-then-instant_after-until_with
 returns-then-instant_after-until_with g c =
     let stdoff_fits : FitsSigned w64 c.args.stdoff = c.ranges.stdoff in
-    let save_fits : FitsSigned w64 c.save.result = search rules in
-    let save_fits_too : FitsSigned w64 c.save-2.result = search rules in
+    let save_fits : FitsSigned w64 c.save-save.result = search rules in
     let instant_fits : FitsSigned w64 c.instant_after.result = search rules in
     let until_fits : FitsSigned w64 c.until_with.result = search rules in
     let instant_by = simp to_z-of_z at c.instant_after.ensures.value in
     let until_by = simp to_z-of_z at c.until_with.ensures.value in
-    let instant = rw c.save.ensures.value at instant_by in
-    let until = rw c.save-2.ensures.value at until_by in
+    let instant = rw c.save-save.ensures.value at instant_by in
+    let until = rw c.save-save.ensures.value at until_by in
     let tested = simp to_z-of_z at c.if-instant_after-until_with.true in
     let early : c.instant_after.result <ℤ c.until_with.result = omega (arith, ints, tested) in
     next_passes c.args.set.now c.args.stdoff c.args.until.now.year c.args.until.now.moment c.args.under.now.occurrence c.in-Some.next c.instant_after.result c.until_with.result c.requires.passed c.in-Some.ensures.first instant until early
@@ -26,14 +25,13 @@ returns-then-instant_after-until_with g c =
 pub returns-else-instant_after-until_with : goal.returns-else-instant_after-until_with
 returns-else-instant_after-until_with g c =
     let stdoff_fits : FitsSigned w64 c.args.stdoff = c.ranges.stdoff in
-    let save_fits : FitsSigned w64 c.save.result = search rules in
-    let save_fits_too : FitsSigned w64 c.save-2.result = search rules in
+    let save_fits : FitsSigned w64 c.save-save.result = search rules in
     let instant_fits : FitsSigned w64 c.instant_after.result = search rules in
     let until_fits : FitsSigned w64 c.until_with.result = search rules in
     let instant_by = simp to_z-of_z at c.instant_after.ensures.value in
     let until_by = simp to_z-of_z at c.until_with.ensures.value in
-    let instant = rw c.save.ensures.value at instant_by in
-    let until = rw c.save-2.ensures.value at until_by in
+    let instant = rw c.save-save.ensures.value at instant_by in
+    let until = rw c.save-save.ensures.value at until_by in
     let tested = simp to_z-of_z at c.if-instant_after-until_with.false in
     let reached : c.until_with.result ≤ℤ c.instant_after.result = omega (arith, ints, tested) in
     next_stops c.args.set.now c.args.stdoff c.args.until.now.year c.args.until.now.moment c.args.under.now.occurrence c.in-Some.next c.instant_after.result c.until_with.result c.requires.passed c.in-Some.ensures.first instant until reached

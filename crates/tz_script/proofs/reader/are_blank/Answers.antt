@@ -1,7 +1,7 @@
 use Rattle.std.proofs.Common.{◌≡◌, true, [], sym, ap, ◌∙◌}
 use Rattle.tz_specs.specs.Line.{lines_of}
 use Rattle.tz_script.specs.Script.{are_blank}
-use Rattle.tz_script.proofs.LineCuts.{nothing_left, lines-none}
+use Rattle.tz_text.proofs.LineCuts.{nothing_left, lines-none}
 use Rattle.tz_script.proofs.reader.are_blank.Goals as goal
 
 pub returns : goal.returns

@@ -1,7 +1,7 @@
 use Rattle.std.proofs.Common.{◌≡◌, [], sym, ap, ◌∙◌}
 use Rattle.tz_specs.specs.Line.{lines_of}
 use Rattle.tz_script.specs.Script.{blank_fault}
-use Rattle.tz_script.proofs.LineCuts.{nothing_left, lines-none}
+use Rattle.tz_text.proofs.LineCuts.{nothing_left, lines-none}
 use Rattle.tz_script.proofs.reader.blank_fault.Goals as goal
 
 pub returns-then-is_empty : goal.returns-then-is_empty

@@ -6,7 +6,7 @@ use Rattle.tz_script.specs.Contents.{ScriptContents, no_script_contents}
 use Rattle.tz_script.specs.Gathered.{script_contents_gathered}
 use Rattle.tz_script.specs.Script.{script_contents_after}
 use Rattle.tz_script.specs.Tells.{MeansScriptFault}
-use Rattle.tz_script.proofs.LineCuts.{nothing_left, lines-none}
+use Rattle.tz_text.proofs.LineCuts.{nothing_left, lines-none}
 use Rattle.tz_script.proofs.Reading.{after_none}
 use Rattle.tz_script.proofs.reader.take_lines.Goals as goal
 

@@ -1,8 +1,8 @@
 use Rattle.std.proofs.Common.{slice_index, ◌+◌, refl}
 use Rattle.std.proofs.lemmas.List.{take_rest}
 use Rattle.std.proofs.Math.Numerals.{add-one}
-use Rattle.tz_lines.proofs.Lines.{first_line, last_line, lines-none, is_newline, none_left, none_taken, none_dropped}
-use Rattle.tz_lines.proofs.next_line.next_line.Goals as goal
+use Rattle.tz_text.proofs.LineCuts.{first_line, last_line, lines-none, is_newline, none_left, none_taken, none_dropped}
+use Rattle.tz_text.proofs.lines.next_line.Goals as goal
 
 pub returns-in-Some-clause-lines : goal.returns-in-Some-clause-lines
 returns-in-Some-clause-lines c =

@@ -1,7 +1,7 @@
 use Rattle.std.proofs.Common.{arith, FitsSigned}
 use Rattle.std.specs.Int.{w64}
 use Rattle.std.proofs.lemmas.Int.{ints, to_z-of_z}
-use Rattle.tz_rules.proofs.rule_year.RuleYear.instant_after.Goals as goal
+use Rattle.tz_rules.proofs.occurrences.Occurrence.instant_after.Goals as goal
 
 pub returns-clause-value : goal.returns-clause-value
 returns-clause-value c =

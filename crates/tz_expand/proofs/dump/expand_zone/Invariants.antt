@@ -1,5 +1,0 @@
-use Rattle.tz_expand.proofs.dump.expand_zone.Given as goal
-
--- nothing is counted: the ledger is the one that is handed over
-abbrev pub ghosts-expand_uncounted : goal.ghosts-expand_uncounted
-ghosts-expand_uncounted a = record { name = a.blank.name; parts = a.blank.parts }
