@@ -3,6 +3,7 @@ use Rattle.std.proofs.Common.{◌≡◌, ◌≢◌, ℕ, ◌+◌, ◌/◌, ◌^�
 use Rattle.std.specs.Prelude.{slice_get}
 use Rattle.std.specs.List.{Contains, remove, list_any}
 use Rattle.std.proofs.lemmas.Bool.{cases_Bool, or_parts}
+use Rattle.std.proofs.lemmas.List.{length-append}
 use Rattle.std.proofs.lemmas.List.Elements.{Contains-append_left, Contains-push}
 use Rattle.pin_book.specs.declared.write.Write.{Write}
 use Rattle.pin_book.specs.Replay.{front_number, replays}
@@ -68,6 +69,7 @@ goes_on_without slots room number shown v journal g = record {
   own = g.own;
   handles = λ e among. g.handles e (Contains-append_left v.entries (new_entry slots shown v ∷ []) e among);
   strays = λ e among. g.strays e (Contains-append_left v.entries (new_entry slots shown v ∷ []) e among);
+  few = (let few = g.few in let long = length-append v.entries (new_entry slots shown v ∷ []) in omega arith);
 }
 
 -- a pin that missed tells of more writes
