@@ -21,5 +21,7 @@ pub mod HandLemmas
 pub mod WriteLemmas
 pub mod EraseLemmas
 pub mod SlotLemmas
+pub mod RefillLemmas
+pub mod PushLemmas
 pub mod HandleMoves
 pub mod HandPins

@@ -8,6 +8,7 @@ use Rattle.pin_core.specs.Step.{claiming}
 use Rattle.pin_table.specs.declared.cell.Cell.{Cell}
 use Rattle.pin_table.specs.declared.sitting.Plan.{Plan}
 use Rattle.pin_table.specs.declared.sitting.Sitting.{Sitting}
+use Rattle.pin_table.specs.Carried.{Exchanges}
 use Rattle.pin_table.specs.Seat.{knowing}
 use Rattle.pin_table.specs.Runs.{run_from}
 use Rattle.pin_table.specs.Plays.{SlotPinned}
@@ -33,3 +34,7 @@ module _ {P H : Type 0} where
     pub cells : List (Cell P H)
     pub many : length cells ≡ plan.readers
     pub seat : m' ≡ (knowing (claiming slot (finding plan.slots slot m.0.core)) m.0, run_from (place slot 0) cells ++ m.1)
+
+-- the slot holds this now, whatever it held
+abbrev pub FillsPlace : {S : Type 0} → ℕ → S → List (ℕ × S) → List (ℕ × S) → Type 0
+FillsPlace {S} slot new carried carried' = (old : S) × Exchanges slot old new carried carried'

@@ -1,1 +1,135 @@
 //! The calls of a reader that push a version.
+ghost use Rattle.std.specs.Prelude.{◌≡◌, ◌+◌, ◌<◌, ◌≤◌, ◌++◌, true, false, None, Some, [], ◌∷◌, length, drop, replicate, IfOk, IfErr, Contains};
+ghost use Rattle.pin_book.specs.declared.write.Change.TheVariants.{Push};
+ghost use Rattle.pin_book.specs.Replay.{is_taken, front_number};
+ghost use Rattle.pin_core.specs.declared.entry.Entry.{Entry};
+ghost use Rattle.pin_core.specs.Core.{IsReader, times};
+ghost use Rattle.pin_core.specs.Packing.{place as place_of};
+ghost use Rattle.pin_core.specs.Step.{stored};
+ghost use Rattle.pin_table.specs.BookHeld.{WritesIn};
+ghost use Rattle.pin_table.specs.Carried.{slots_of};
+ghost use Rattle.pin_table.specs.Claims.{FillsPlace};
+ghost use Rattle.pin_book.specs.Book.{IsBook};
+ghost use Rattle.pin_book.specs.Sequence.{next_seq};
+ghost use Rattle.pin_table.specs.declared.cell.Cell.TheVariants.{Place};
+ghost use Rattle.pin_table.specs.Runs.{run_from, CarriesRun};
+ghost use Rattle.pin_table.specs.Seat.{knowing};
+ghost use Rattle.pin_table.specs.Shelf.{full_shelf};
+ghost use Rattle.pin_table.specs.Sources.{book_of};
+ghost use Rattle.pin_table.specs.Table.{IsAt, plan};
+
+use crate::answers::Pushed;
+use crate::cell::Cell;
+use crate::copies::Copies;
+use crate::exchange::{Carried, exchange};
+use crate::rule::Chair;
+use crate::shelf::Shelf;
+use crate::slot_claims::{first_place, give_run};
+use crate::steps::store_push;
+use crate::table::PinTable;
+use crate::turns::front_in;
+use pin_book::{Book, Payload, Write};
+use tz_types::VersionText;
+
+/// Puts a shelf into a place that the seat carries.
+fn fill<P: Payload>(
+    table: &PinTable<P>,
+    seat: &mut Chair<P>,
+    carried: &mut Carried,
+    place: usize,
+    shelf: Shelf<P>,
+)
+    requires own { seat.old.table_id ≡ table.now.base.shared.table_id }
+    requires listed { carried.old ≡ slots_of seat.old.me.1 }
+    requires taken { times place carried.old ≡ 1 }
+    ensures same { (seat.new.table_id ≡ seat.old.table_id) × (seat.new.me.0 ≡ seat.old.me.0) }
+    ensures filled { FillsPlace place (Place shelf) seat.old.me.1 seat.new.me.1 }
+    ensures listed { carried.new ≡ slots_of seat.new.me.1 }
+{
+    let _ = exchange(&table.base.shared, seat, carried, place, Cell::Place(shelf));
+}
+
+/// Fills the places of this slot, which the seat has taken last, from the last to the first, so that they stand first in
+/// their order again.
+fn refill<P: Payload>(
+    table: &PinTable<P>,
+    seat: &mut Chair<P>,
+    carried: &mut Carried,
+    slot: u32,
+    copies: Copies<P>,
+)
+    requires own { seat.old.table_id ≡ table.now.base.shared.table_id }
+    requires listed { carried.old ≡ slots_of seat.old.me.1 }
+    requires many { copies.readers ≡ (plan table.now).readers }
+    requires run { CarriesRun (place_of slot 0) (plan table.now).readers seat.old.me.1 }
+    ensures same { (seat.new.table_id ≡ seat.old.table_id) × (seat.new.me.0 ≡ seat.old.me.0) }
+    ensures stocked { seat.new.me.1 ≡ run_from (place_of slot 0) (replicate (plan table.now).readers (Place (full_shelf copies.version))) ++ drop (plan table.now).readers seat.old.me.1 }
+    ensures listed { carried.new ≡ slots_of seat.new.me.1 }
+{
+    let first = first_place(slot);
+    let mut shelves = copies.into_shelves();
+    let mut left = table.readers as usize;
+    while left > 0 {
+        left -= 1;
+        let Some(shelf) = shelves.pop() else {
+            unreachable!()
+        };
+        fill(table, seat, carried, first + left, shelf);
+    }
+}
+
+/// Writes a push into the book.
+#[tactic(auto, unfolding(pin_book::specs::Replay::is_taken, pin_book::specs::Replay::front_number))]
+fn write_push(book: &mut Book, by: u32, src: u32, name: VersionText, slot: u32) -> Write
+    requires room { length book.old.journal < book.old.room }
+    requires slot { slot < book.old.slots }
+    requires unlisted { is_taken book.old.slots book.old.journal slot ≡ false }
+    ensures write { result ≡ record { by = by; seq = next_seq by book.old.journal; change = Push (front_number book.old.slots book.old.journal + 1) src slot } }
+    ensures book { book.new ≡ record book.old { journal = book.old.journal ++ result ∷ []; names = book.old.names ++ name ∷ [] } }
+    ensures whole { IsBook book.new }
+{
+    let place = book.w() as usize;
+    let _ = book.push(by, src, name, slot);
+    book.entries()[place]
+}
+
+/// Pushes the version into this slot, which is claimed.
+fn push_into<P: Payload>(
+    table: &PinTable<P>,
+    seat: &mut Chair<P>,
+    carried: &mut Carried,
+    number: u32,
+    slot: u32,
+    next: u32,
+    copies: Copies<P>,
+    book: &mut Book,
+) -> Pushed
+    requires own { IsAt table.now seat.old }
+    requires reader { IsReader number seat.old.me.0.core }
+    requires writes { WritesIn P.home P.name_of (plan table.now) number seat.old.me.0.core book.old }
+    requires allowance { 0 < seat.old.me.0.core.allowance }
+    requires slot { (slot < (plan table.now).slots) × (is_taken (plan table.now).slots seat.old.me.0.core.seen slot ≡ false) }
+    requires next { next ≡ front_number (plan table.now).slots seat.old.me.0.core.seen + 1 }
+    requires claimed { seat.old.me.0.core.claimed ≡ Some slot }
+    requires copies { (copies.readers ≡ (plan table.now).readers) × (P.home copies.version ≡ P.home (plan table.now).first) }
+    requires run { CarriesRun (place_of slot 0) (plan table.now).readers seat.old.me.1 }
+    requires listed { carried.old ≡ slots_of seat.old.me.1 }
+    ensures own { IsAt table.now seat.new }
+    ensures pushed { result ≡ record { w = length seat.old.me.0.core.seen + 1; n = front_number (plan table.now).slots seat.old.me.0.core.seen + 1; slot = slot } }
+    ensures stored { seat.new.me ≡ (knowing (stored record { by = number; seq = length seat.old.me.0.core.own + 1; change = Push result.n (P.source copies.version) slot } seat.old.me.0.core) seat.old.me.0, drop (plan table.now).readers seat.old.me.1) }
+    ensures book { book.new ≡ book_of P.name_of (P.home (plan table.now).first) (plan table.now).slots (plan table.now).room seat.new.me.0.core.seen }
+    ensures listed { carried.new ≡ slots_of seat.new.me.1 }
+{
+    let w = book.w();
+    let src = copies.version().src();
+    let name = copies.version().name();
+    refill(table, seat, carried, slot, copies);
+    let write = write_push(book, number, src, name, slot);
+    store_push(table, seat, number, write, front_in(book));
+    give_run(carried, table.readers as usize);
+    Pushed {
+        w: w + 1,
+        n: next,
+        slot,
+    }
+}
