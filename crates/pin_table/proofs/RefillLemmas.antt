@@ -1,10 +1,21 @@
 -- How the places of a slot are filled, from the last to the first.
 use Rattle.std.proofs.Common.{◌≡◌, ◌≢◌, ◌⊎◌, ℕ, zero, suc, ◌+◌, ◌-◌, ◌<◌, ◌≤◌, List, [], ◌∷◌, ◌++◌, length, drop, take, replicate, refl, sym, ap, ◌∙◌, subst, ⊎_elim, inl, inr, arith, append_assoc, ◌==◌, eq-eqb, ne_eqb}
+use mathlib.Core.Option.{some, some-ne-none, some-injective}
+use lib.ListN.{get_elem?}
+use Rattle.std.proofs.lemmas.List.{length-replicate}
 use Rattle.pin_core.specs.Core.{times, one_if}
 use Rattle.pin_table.specs.Carried.{slots_of, Exchanges}
 use Rattle.pin_table.specs.Runs.{run_from, CarriesRun}
 use Rattle.pin_table.proofs.ExchangeLemmas.{times_both}
 use Rattle.pin_table.proofs.TurnLemmas.{exchanged_amid}
+
+-- the last of alike ones is taken off
+pub popped : {A : Type 0} (k : ℕ) (one : A) (xs : List A) (x : A) → xs ++ x ∷ [] ≡ replicate (suc k) one → (xs ≡ replicate k one) × (x ≡ one)
+popped zero one [] x is = (refl, cc)
+popped zero one (a ∷ []) x is = let long = ap (λ l. length l) is in absurd (omega arith)
+popped zero one (a ∷ b ∷ xs) x is = let long = ap (λ l. length l) is in absurd (omega arith)
+popped (suc k) one [] x is = let long = ap (λ l. length l) is in absurd (omega arith)
+popped (suc k) one (a ∷ xs) x is = let head : a ≡ one = cc in let tail : xs ++ x ∷ [] ≡ replicate (suc k) one = cc in let later = popped k one xs x tail in ((λ i. head i ∷ later.0 i), later.1)
 
 module _ {S : Type 0} where
   -- All but the first `left` of the run's places are filled, and stand first. The unfilled ones stand last, but where all
@@ -97,3 +108,18 @@ module _ {S : Type 0} where
           done ∙ (λ i. run_from (same i) (replicate (all i) new) ++ none_more (drop count before) i))
           (λ (all : (0 ≡ count) × (carried ≡ drop count before)). all.1 ∙ ap (λ n. run_from base (replicate n new) ++ drop count before) all.0) is
       by_held (x ∷ xs) empty is = absurd (omega arith)
+
+  -- what stands behind a run
+  pub behind_run : (base : ℕ) (xs : List S) (ys : List (ℕ × S)) → drop (length xs) (run_from base xs ++ ys) ≡ ys
+  behind_run base [] ys = refl
+  behind_run base (x ∷ xs) ys = behind_run (suc base) xs ys
+
+  pub slots_of_drop : (n : ℕ) (xs : List (ℕ × S)) → drop n (slots_of xs) ≡ slots_of (drop n xs)
+  slots_of_drop zero xs = refl
+  slots_of_drop (suc n) [] = refl
+  slots_of_drop (suc n) (x ∷ xs) = slots_of_drop n xs
+
+  pub each_of_replicate : (n i : ℕ) (one x : S) → get_elem? (replicate n one) i ≡ some x → x ≡ one
+  each_of_replicate zero i one x at = absurd (some-ne-none x (sym at))
+  each_of_replicate (suc n) zero one x at = sym (some-injective one x at)
+  each_of_replicate (suc n) (suc i) one x at = each_of_replicate n i one x at
