@@ -1,22 +1,29 @@
 -- What a push asks and leaves.
-use Rattle.std.proofs.Common.{◌≡◌, ◌≢◌, ℕ, zero, suc, ◌+◌, ◌<◌, ◌≤◌, List, [], ◌∷◌, ◌++◌, length, map, drop, replicate, refl, ⊎_elim, sym, ap, ◌∙◌, subst, arith, Bool, true, false, ◌==◌, ◌&&◌, eq-eqb, Option, Some, None, Result, Ok, Err}
+use Rattle.std.proofs.Common.{◌≡◌, ◌≢◌, ℕ, zero, suc, ◌+◌, ◌-◌, ◌<◌, ◌≤◌, List, [], ◌∷◌, ◌++◌, length, map, drop, replicate, refl, ⊎_elim, sym, ap, ◌∙◌, subst, arith, Bool, true, false, ◌==◌, ◌&&◌, eq-eqb, Option, Some, None, Result, Ok, Err}
 use Rattle.std.specs.List.{Contains}
-use Rattle.std.proofs.lemmas.List.{map-append, length-replicate}
+use Rattle.std.proofs.lemmas.List.{map-append, length-replicate, get_or-map}
 use mathlib.Core.Option as maybe
 use lib.ListN.{get_elem?}
 use Rattle.atomic_table.specs.Table.{Me}
 use Rattle.pin_book.specs.declared.write.Write.{Write}
 use Rattle.pin_book.specs.declared.write.Change.{Change}
 use Rattle.pin_book.specs.declared.write.Change.TheVariants.{Push, Erase}
-use Rattle.pin_book.specs.Replay.{Edition, state_after, allowed, replays, front_number, is_taken, is_slot_listed}
+use Rattle.pin_book.specs.Replay.{Edition, state_after, allowed, replays, front_number, front_of, is_taken}
 use Rattle.pin_book.specs.Pushes.{pushed_by}
-use Rattle.pin_book.specs.Book.{Chronicle}
+use Rattle.pin_book.specs.Book.{Chronicle, list_of}
+use Rattle.pin_book.specs.Names.{with_name}
+use Rattle.pin_table.specs.declared.position.Position.{Position}
+use Rattle.pin_table.specs.Position.{IsAfter}
+use Rattle.pin_table.specs.Carried.{slots_of}
+use Rattle.pin_table.specs.Seat.{knowing}
+use Rattle.pin_table.specs.BookHeld.{WritesIn}
+use Rattle.pin_table.specs.Claims.{FreePlaces, ClaimsLeast}
 use Rattle.pin_book.proofs.BookLemmas.{asked_push}
 use Rattle.pin_book.proofs.ReplayLemmas.{replay_orderly}
 use Rattle.pin_book.proofs.Journals as journals
 use Rattle.pin_core.specs.declared.entry.Entry.{Entry}
 use Rattle.pin_core.specs.declared.view.View.{View}
-use Rattle.pin_core.specs.Core.{total, one_if, held_at}
+use Rattle.pin_core.specs.Core.{total, one_if, times, held_at}
 use Rattle.pin_core.specs.Packing.{place}
 use Rattle.pin_core.specs.Step.{got_turn, gave_turn, stored, claiming}
 use Rattle.pin_table.specs.declared.answers.Pushed.{Pushed}
@@ -26,14 +33,14 @@ use Rattle.pin_table.specs.declared.cell.Cell.{Cell}
 use Rattle.pin_table.specs.declared.cell.Cell.TheVariants.{Place}
 use Rattle.pin_table.specs.declared.sitting.Plan.{Plan}
 use Rattle.pin_table.specs.declared.sitting.Sitting.{Sitting}
-use Rattle.pin_table.specs.Runs.{run_from}
+use Rattle.pin_table.specs.Runs.{run_from, CarriesRun}
 use Rattle.pin_table.specs.Shelf.{full_shelf, AreOf}
-use Rattle.pin_table.specs.Sources.{sources, book_of}
+use Rattle.pin_table.specs.Sources.{sources, source_of, book_of}
 use Rattle.pin_table.specs.Places.{IsStocked}
 use Rattle.pin_table.specs.Plays.{GoesOn, HasStockedRun}
 use Rattle.pin_table.specs.Idle.{IsIdle}
 use Rattle.pin_table.specs.Turns.{finding, PushAnswers, PushesVersion}
-use Rattle.pin_table.proofs.SourceLemmas.{sources-append}
+use Rattle.pin_table.proofs.SourceLemmas.{sources-append, source_count, source_at, front_some}
 use Rattle.pin_table.proofs.RefillLemmas.{behind_run, each_of_replicate}
 use Rattle.pin_table.proofs.ExchangeLemmas.{among_one_more}
 use Rattle.pin_table.proofs.HandLemmas.{LeavesHandles, turn_leaves}
@@ -80,3 +87,42 @@ module _ {P H : Type 0} (home : P → H) (source : P → ℕ) (plan : Plan P) wh
             record { shelf = full_shelf version; is = refl; full = refl; alike = alike_of version of_home 8 };
         is = is ∙ ap (λ l. run_from (place slot 0) cells ++ l) (sym rest);
       }
+
+-- ---- what the front is, by the book in hand ----
+
+module _ {P H : Type 0} (home : P → H) (name_of : H → ℕ → List ℕ) (plan : Plan P) where
+  -- the front's name is that of its source
+  front_named : (journal : List Write) → 0 < plan.slots → replays plan.slots journal ≡ true
+      → (with_name (book_of name_of (home plan.first) plan.slots plan.room journal).names (front_of (state_after plan.slots journal).listed)).name ≡ name_of (home plan.first) (source_of journal (front_number plan.slots journal))
+  unfolding front_number
+  front_named journal some_slot replay =
+      let many = source_count plan.slots journal some_slot replay in let some_front = front_some plan.slots journal some_slot replay in let n : ℕ = (front_of (state_after plan.slots journal).listed).n in
+      get_or-map (name_of (home plan.first)) (sources journal) (n - 1) 0 [] (omega arith) ∙ ap (name_of (home plan.first)) (sym (source_at journal n))
+
+  pub front_knows : (number : ℕ) (v : View) (book : Chronicle) (front : Position) → 0 < plan.slots → WritesIn home name_of plan number v book → IsAfter book.slots book.journal front
+      → (front.w ≡ length v.seen) × (front.n ≡ front_number plan.slots v.seen) × ((with_name book.names (front_of (list_of book).listed)).name ≡ name_of (home plan.first) (source_of v.seen (front_number plan.slots v.seen)))
+  front_knows number v book front some_slot h after =
+      let here = subst (λ (b : Chronicle). IsAfter b.slots b.journal front) h.is after in
+      (here.w, here.n, ap (λ (b : Chronicle). (with_name b.names (front_of (list_of b).listed)).name) h.is ∙ front_named v.seen some_slot h.replay)
+
+module _ {P H : Type 0} where
+  -- what stands behind it
+  pub rest_of : (plan : Plan P) (slot : ℕ) (m m1 : Me (Cell P H) (Sitting P)) → ClaimsLeast plan slot m m1 → drop plan.readers m1.1 ≡ m.1
+  rest_of plan slot m m1 h = ap (λ n. drop n m1.1) (sym h.many) ∙ (ap (λ (x : Me (Cell P H) (Sitting P)). drop (length h.cells) x.1) h.seat ∙ behind_run (place slot 0) h.cells m.1)
+
+  -- the run of a claimed slot
+  pub claimed_run : (plan : Plan P) (slot : ℕ) (m m1 : Me (Cell P H) (Sitting P)) → FreePlaces plan m → ClaimsLeast plan slot m m1 → CarriesRun (place slot 0) plan.readers m1.1
+  claimed_run plan slot m m1 free_places h =
+      let carried = ap (λ (x : Me (Cell P H) (Sitting P)). x.1) h.seat in let rest = rest_of plan slot m m1 h in record {
+        held = h.cells;
+        many = h.many;
+        is = carried ∙ ap (λ l. run_from (place slot 0) h.cells ++ l) (sym rest);
+        apart = λ at low high. let reader : ℕ = at - place slot 0 in let to : place slot reader ≡ at = omega arith in
+            ap (λ l. times at (slots_of l)) rest ∙ subst (λ k. times k (slots_of m.1) ≡ 0) to (free_places slot reader h.inside (omega arith) h.free);
+      }
+
+  pub pushed_seat : (plan : Plan P) (slot : ℕ) (x : View) (m m1 m2 : Me (Cell P H) (Sitting P)) → ClaimsLeast plan slot m m1 → m2 ≡ (knowing x m1.0, drop plan.readers m1.1) → m2 ≡ (knowing m2.0.core m.0, m.1)
+  pushed_seat plan slot x m m1 m2 h stored =
+      let rest = rest_of plan slot m m1 h in let seat = ap (λ (y : Me (Cell P H) (Sitting P)). y.0) h.seat in
+      let here : m2 ≡ (knowing x m.0, m.1) = stored ∙ (λ i. (knowing x (seat i), rest i)) in
+      here ∙ (λ i. (knowing (sym (ap (λ (y : Me (Cell P H) (Sitting P)). y.0.core) here) i) m.0, m.1))

@@ -1,15 +1,18 @@
 //! The calls of a reader that push a version.
-ghost use Rattle.std.specs.Prelude.{◌≡◌, ◌+◌, ◌<◌, ◌≤◌, ◌++◌, true, false, None, Some, [], ◌∷◌, length, drop, replicate, IfOk, IfErr, Contains};
+ghost use Rattle.std.specs.Prelude.{◌≡◌, ◌+◌, ◌<◌, ◌≤◌, ◌++◌, true, false, None, Some, [], ◌∷◌, length, drop, replicate, IfOk, IfErr, Contains, Ok, Err, ◌↔◌};
 ghost use Rattle.pin_book.specs.declared.write.Change.TheVariants.{Push};
-ghost use Rattle.pin_book.specs.Replay.{is_taken, front_number};
+ghost use Rattle.pin_book.specs.Replay.{is_taken, front_number, front_of};
 ghost use Rattle.pin_core.specs.declared.entry.Entry.{Entry};
 ghost use Rattle.pin_core.specs.Core.{IsReader, times};
 ghost use Rattle.pin_core.specs.Packing.{place as place_of};
 ghost use Rattle.pin_core.specs.Step.{stored};
 ghost use Rattle.pin_table.specs.BookHeld.{WritesIn};
 ghost use Rattle.pin_table.specs.Carried.{slots_of};
-ghost use Rattle.pin_table.specs.Claims.{FillsPlace};
-ghost use Rattle.pin_book.specs.Book.{IsBook};
+ghost use Rattle.pin_table.specs.Claims.{FillsPlace, FreePlaces};
+ghost use Rattle.pin_book.specs.Book.{IsBook, list_of};
+ghost use Rattle.pin_book.specs.Names.{with_name};
+ghost use Rattle.pin_table.specs.declared.exchange.TheConstants.{MOST_CARRIED};
+ghost use Rattle.pin_table.specs.Turns.{PushAnswers};
 ghost use Rattle.pin_book.specs.Sequence.{next_seq};
 ghost use Rattle.pin_table.specs.declared.cell.Cell.TheVariants.{Place};
 ghost use Rattle.pin_table.specs.Runs.{run_from, CarriesRun};
@@ -18,13 +21,13 @@ ghost use Rattle.pin_table.specs.Shelf.{full_shelf};
 ghost use Rattle.pin_table.specs.Sources.{book_of};
 ghost use Rattle.pin_table.specs.Table.{IsAt, plan};
 
-use crate::answers::Pushed;
+use crate::answers::{PushRefused, PushWhy, Pushed};
 use crate::cell::Cell;
 use crate::copies::Copies;
 use crate::exchange::{Carried, exchange};
 use crate::rule::Chair;
 use crate::shelf::Shelf;
-use crate::slot_claims::{first_place, give_run};
+use crate::slot_claims::{claim_least, first_place, give_run};
 use crate::steps::store_push;
 use crate::table::PinTable;
 use crate::turns::front_in;
@@ -132,4 +135,57 @@ fn push_into<P: Payload>(
         n: next,
         slot,
     }
+}
+
+/// Whether the front has this name.
+fn is_front_name(book: &Book, name: &VersionText) -> bool
+    ensures { (result ≡ true) ↔ (name.now ≡ (with_name book.now.names (front_of (list_of book.now).listed)).name) }
+{
+    book.front().name == *name
+}
+
+/// Pushes the version in a turn, where that is possible.
+fn push_by_book<P: Payload>(
+    table: &PinTable<P>,
+    seat: &mut Chair<P>,
+    carried: &mut Carried,
+    number: u32,
+    allowance: u32,
+    copies: Copies<P>,
+    book: &mut Book,
+) -> Result<Pushed, PushRefused<P>>
+    requires own { IsAt table.now seat.old }
+    requires reader { IsReader number seat.old.me.0.core }
+    requires writes { WritesIn P.home P.name_of (plan table.now) number seat.old.me.0.core book.old }
+    requires fresh { (seat.old.me.0.core.claimed ≡ None) × (seat.old.me.0.core.pinned ≡ []) }
+    requires held { (e : Entry) → Contains seat.old.me.0.core.entries e → e.held ≡ true }
+    requires allowance { allowance ≡ seat.old.me.0.core.allowance }
+    requires copies { (copies.readers ≡ (plan table.now).readers) × (P.home copies.version ≡ P.home (plan table.now).first) }
+    requires listed { carried.old ≡ slots_of seat.old.me.1 }
+    requires room { length carried.old + (plan table.now).readers ≤ MOST_CARRIED }
+    requires apart { FreePlaces (plan table.now) seat.old.me }
+    ensures own { IsAt table.now seat.new }
+    ensures pushed { IfOk result (λ pushed. PushAnswers P.home P.source P.name_of (plan table.now) number seat.old.me.0.core seat.new.me.0.core copies.version (Ok pushed)) }
+    ensures refused { IfErr result (λ refused. PushAnswers P.home P.source P.name_of (plan table.now) number seat.old.me.0.core seat.new.me.0.core copies.version (Err refused.why)) }
+    ensures copies { IfErr result (λ refused. refused.copies ≡ copies) }
+    ensures seat { seat.new.me ≡ (knowing seat.new.me.0.core seat.old.me.0, seat.old.me.1) }
+    ensures listed { carried.new ≡ slots_of seat.new.me.1 }
+    ensures book { book.new ≡ book_of P.name_of (P.home (plan table.now).first) (plan table.now).slots (plan table.now).room seat.new.me.0.core.seen }
+{
+    let front = front_in(book);
+    let w = front.w;
+    if is_front_name(book, &copies.version().name()) {
+        let why = PushWhy::Same { w, n: front.n };
+        return Err(PushRefused { why, copies });
+    }
+    if allowance == 0 {
+        let why = PushWhy::JournalFull { w };
+        return Err(PushRefused { why, copies });
+    }
+    let next = front.n + 1;
+    let Some(slot) = claim_least(table, seat, carried, number, next, book) else {
+        let why = PushWhy::Full { w };
+        return Err(PushRefused { why, copies });
+    };
+    Ok(push_into(table, seat, carried, number, slot, next, copies, book))
 }
