@@ -1,5 +1,6 @@
 -- What a push asks and leaves.
 use Rattle.std.proofs.Common.{◌≡◌, ◌≢◌, ℕ, zero, suc, ◌+◌, ◌-◌, ◌<◌, ◌≤◌, List, [], ◌∷◌, ◌++◌, length, map, drop, replicate, refl, ⊎_elim, sym, ap, ◌∙◌, subst, arith, Bool, true, false, ◌==◌, ◌&&◌, eq-eqb, Option, Some, None, Result, Ok, Err}
+use Rattle.std.specs.Prelude.{IfOk, IfErr}
 use Rattle.std.specs.List.{Contains}
 use Rattle.std.proofs.lemmas.List.{map-append, length-replicate, get_or-map}
 use mathlib.Core.Option as maybe
@@ -39,7 +40,7 @@ use Rattle.pin_table.specs.Sources.{sources, source_of, book_of}
 use Rattle.pin_table.specs.Places.{IsStocked}
 use Rattle.pin_table.specs.Plays.{GoesOn, HasStockedRun}
 use Rattle.pin_table.specs.Idle.{IsIdle}
-use Rattle.pin_table.specs.Turns.{finding, PushAnswers, PushesVersion}
+use Rattle.pin_table.specs.Turns.{finding, PushAnswers, Pushes, RefusesPush}
 use Rattle.pin_table.proofs.SourceLemmas.{sources-append, source_count, source_at, front_some}
 use Rattle.pin_table.proofs.RefillLemmas.{behind_run, each_of_replicate}
 use Rattle.pin_table.proofs.ExchangeLemmas.{among_one_more}
@@ -126,3 +127,36 @@ module _ {P H : Type 0} where
       let rest = rest_of plan slot m m1 h in let seat = ap (λ (y : Me (Cell P H) (Sitting P)). y.0) h.seat in
       let here : m2 ≡ (knowing x m.0, m.1) = stored ∙ (λ i. (knowing x (seat i), rest i)) in
       here ∙ (λ i. (knowing (sym (ap (λ (y : Me (Cell P H) (Sitting P)). y.0.core) here) i) m.0, m.1))
+
+-- ---- a push in a turn ----
+
+module _ {P H : Type 0} (home : P → H) (source : P → ℕ) (name_of : H → ℕ → List ℕ) (plan : Plan P) where
+  -- it leaves the handles
+  push_leaves : (by : ℕ) (journal : List Write) (v after : View) (version : P) (answer : Result Pushed PushWhy) → 0 < plan.slots → IsIdle plan.slots by v → GoesOn plan.slots plan.room by v journal
+      → PushAnswers home source name_of plan by (got_turn journal v) after version answer → LeavesHandles plan.slots v (gave_turn after)
+  push_leaves by journal v after version (Ok pushed) some_slot h goes is =
+      let write : Write = record { by = by; seq = length v.own + 1; change = Push pushed.n (source version) pushed.slot } in
+      let allows = push_allowed plan.slots pushed.n (source version) pushed.slot journal some_slot goes.replay is.is_n is.inside is.unlisted in
+      let left = journals.pushed plan.slots journal write pushed.n (source version) pushed.slot some_slot goes.replay allows refl in
+      subst (λ a. LeavesHandles plan.slots v (gave_turn a)) (sym is.view)
+      (write_leaves plan.slots plan.room by journal write v (gave_turn (stored write (claiming pushed.slot (finding plan.slots pushed.slot (got_turn journal v))))) h goes refl refl refl refl refl refl
+      (λ e among. left.others e.slot (held_elsewhere pushed.slot v.entries e is.free among (h.handles e among).held)))
+  push_leaves by journal v after version (Err (push.Busy holder)) some_slot h goes is = absurd is
+  push_leaves by journal v after version (Err (push.Same w n)) some_slot h goes is = subst (λ a. LeavesHandles plan.slots v (gave_turn a)) (sym is.view) (turn_leaves plan.slots plan.room by journal v h goes)
+  push_leaves by journal v after version (Err (push.JournalFull w)) some_slot h goes is = subst (λ a. LeavesHandles plan.slots v (gave_turn a)) (sym is.view) (turn_leaves plan.slots plan.room by journal v h goes)
+  push_leaves by journal v after version (Err (push.Full w)) some_slot h goes is =
+      let t = turn_leaves plan.slots plan.room by journal v h goes in
+      subst (λ a. LeavesHandles plan.slots v (gave_turn a)) (sym is.view) record { role = t.role; numbers = t.numbers; entries = t.entries; turn = t.turn; claimed = t.claimed; grows = t.grows; kept = t.kept }
+
+  -- whatever it answers
+  pub push_left : {R : Type 0} (why : R → PushWhy) (by : ℕ) (journal : List Write) (v u after : View) (version : P) (answer : Result Pushed R) → u ≡ got_turn journal v → 0 < plan.slots → IsIdle plan.slots by v → GoesOn plan.slots plan.room by v journal
+      → IfOk answer (λ pushed. PushAnswers home source name_of plan by u after version (Ok pushed)) → IfErr answer (λ refused. PushAnswers home source name_of plan by u after version (Err (why refused))) → LeavesHandles plan.slots v (gave_turn after)
+  push_left why by journal v u after version (Ok pushed) turn some_slot h goes ok err = push_leaves by journal v after version (Ok pushed) some_slot h goes (subst (λ x. PushAnswers home source name_of plan by x after version (Ok pushed)) turn ok)
+  push_left why by journal v u after version (Err refused) turn some_slot h goes ok err = push_leaves by journal v after version (Err (why refused)) some_slot h goes (subst (λ x. PushAnswers home source name_of plan by x after version (Err (why refused))) turn err)
+
+  -- a refusal in a turn
+  pub refuses : (by : ℕ) (v v' : View) (version : P) (why : PushWhy) → Pushes home source name_of plan by v v' version (Err why) → RefusesPush home source name_of plan by v v' version why
+  refuses by v v' version (push.Busy holder) h = absurd h.is
+  refuses by v v' version (push.Same w n) h = h
+  refuses by v v' version (push.JournalFull w) h = h
+  refuses by v v' version (push.Full w) h = h

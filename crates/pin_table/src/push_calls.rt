@@ -12,9 +12,12 @@ ghost use Rattle.pin_table.specs.Claims.{FillsPlace, FreePlaces};
 ghost use Rattle.pin_book.specs.Book.{IsBook, list_of};
 ghost use Rattle.pin_book.specs.Names.{with_name};
 ghost use Rattle.pin_table.specs.declared.exchange.TheConstants.{MOST_CARRIED};
-ghost use Rattle.pin_table.specs.Turns.{PushAnswers};
+ghost use Rattle.pin_table.specs.Turns.{PushAnswers, Pushes, RefusesPush};
 ghost use Rattle.pin_book.specs.Sequence.{next_seq};
 ghost use Rattle.pin_table.specs.declared.cell.Cell.TheVariants.{Place};
+ghost use Rattle.pin_table.specs.Idle.{IsIdle};
+ghost use Rattle.pin_table.specs.Position.{IsAfter};
+ghost use Rattle.pin_table.specs.Reader.{reader_view};
 ghost use Rattle.pin_table.specs.Runs.{run_from, CarriesRun};
 ghost use Rattle.pin_table.specs.Seat.{knowing};
 ghost use Rattle.pin_table.specs.Shelf.{full_shelf};
@@ -25,12 +28,15 @@ use crate::answers::{PushRefused, PushWhy, Pushed};
 use crate::cell::Cell;
 use crate::copies::Copies;
 use crate::exchange::{Carried, exchange};
+use crate::hand::Hand;
+use crate::position::Position;
+use crate::reader::Reader;
 use crate::rule::Chair;
 use crate::shelf::Shelf;
 use crate::slot_claims::{claim_least, first_place, give_run};
 use crate::steps::store_push;
 use crate::table::PinTable;
-use crate::turns::front_in;
+use crate::turns::{front_in, give_turn_back, take_turn};
 use pin_book::{Book, Payload, Write};
 use tz_types::VersionText;
 
@@ -188,4 +194,75 @@ fn push_by_book<P: Payload>(
         return Err(PushRefused { why, copies });
     };
     Ok(push_into(table, seat, carried, number, slot, next, copies, book))
+}
+
+/// Pushes in a turn, where that is possible. The front and what is left of the allowance come along.
+fn push_in_turn<P: Payload>(
+    table: &PinTable<P>,
+    hand: &mut Hand<P>,
+    number: u32,
+    allowance: u32,
+    copies: Copies<P>,
+) -> Result<(Result<Pushed, PushRefused<P>>, Position, u32), PushRefused<P>>
+    requires own { IsAt table.now hand.old.seat }
+    requires idle { IsIdle (plan table.now).slots number hand.old.seat.me.0.core }
+    requires allowance { allowance ≡ hand.old.seat.me.0.core.allowance }
+    requires copies { (copies.readers ≡ (plan table.now).readers) × (P.home copies.version ≡ P.home (plan table.now).first) }
+    ensures own { IsAt table.now hand.new.seat }
+    ensures idle { IsIdle (plan table.now).slots number hand.new.seat.me.0.core }
+    ensures pushed { IfOk result (λ found. IfOk found.0 (λ pushed. Pushes P.home P.source P.name_of (plan table.now) number hand.old.seat.me.0.core hand.new.seat.me.0.core copies.version (Ok pushed))) }
+    ensures refused { IfOk result (λ found. IfErr found.0 (λ refused. RefusesPush P.home P.source P.name_of (plan table.now) number hand.old.seat.me.0.core hand.new.seat.me.0.core copies.version refused.why × (refused.copies ≡ copies))) }
+    ensures front { IfOk result (λ found. IsAfter (plan table.now).slots hand.new.seat.me.0.core.seen found.1) }
+    ensures left { IfOk result (λ found. found.2 ≡ hand.new.seat.me.0.core.allowance) }
+    ensures pins { hand.new.seat.me.0.core.entries ≡ hand.old.seat.me.0.core.entries }
+    ensures busy { IfErr result (λ refused. RefusesPush P.home P.source P.name_of (plan table.now) number hand.old.seat.me.0.core hand.new.seat.me.0.core copies.version refused.why × (refused.copies ≡ copies)) }
+    ensures same { IfErr result (λ refused. (hand.new.seat.me.0.core.seen ≡ hand.old.seat.me.0.core.seen) × (hand.new.seat.me.0.core.allowance ≡ hand.old.seat.me.0.core.allowance)) }
+{
+    let mut book = match take_turn(table, &mut hand.seat, &mut hand.carried, number) {
+        Ok(book) => book,
+        Err(busy) => {
+            let why = PushWhy::Busy {
+                holder: busy.holder,
+            };
+            return Err(PushRefused { why, copies });
+        }
+    };
+    let answer = push_by_book(
+        table,
+        &mut hand.seat,
+        &mut hand.carried,
+        number,
+        allowance,
+        copies,
+        &mut book,
+    );
+    let front = front_in(&book);
+    give_turn_back(table, &mut hand.seat, &mut hand.carried, number, book);
+    let left = match &answer {
+        Ok(_) => allowance - 1,
+        Err(_) => allowance,
+    };
+    Ok((answer, front, left))
+}
+
+impl<'t, P: Payload> Reader<'t, P> {
+    /// Pushes the version that these are copies of, if no other reader has the turn. It goes into the first slot in which
+    /// nothing listed is and which no reader has pinned. A push that is refused hands the copies back.
+    pub fn try_push(&mut self, copies: Copies<P>) -> Result<Pushed, PushRefused<P>>
+        requires copies { (copies.readers ≡ (plan self.old.table.now).readers) × (P.home copies.version ≡ P.home (plan self.old.table.now).first) }
+        ensures pushed { IfOk result (λ pushed. Pushes P.home P.source P.name_of (plan self.old.table.now) self.old.number (reader_view self.old) (reader_view self.new) copies.version (Ok pushed)) }
+        ensures refused { IfErr result (λ refused. RefusesPush P.home P.source P.name_of (plan self.old.table.now) self.old.number (reader_view self.old) (reader_view self.new) copies.version refused.why × (refused.copies ≡ copies)) }
+        ensures table { self.new.table.now ≡ self.old.table.now }
+    {
+        let (answer, front, left) = push_in_turn(
+            self.table,
+            &mut self.hand,
+            self.number,
+            self.allowance,
+            copies,
+        )?;
+        self.seen = front;
+        self.allowance = left;
+        answer
+    }
 }
