@@ -23,5 +23,6 @@ pub mod EraseLemmas
 pub mod SlotLemmas
 pub mod RefillLemmas
 pub mod PushLemmas
+pub mod WaitLemmas
 pub mod HandleMoves
 pub mod HandPins

@@ -253,6 +253,7 @@ impl<'t, P: Payload> Reader<'t, P> {
         ensures pushed { IfOk result (λ pushed. Pushes P.home P.source P.name_of (plan self.old.table.now) self.old.number (reader_view self.old) (reader_view self.new) copies.version (Ok pushed)) }
         ensures refused { IfErr result (λ refused. RefusesPush P.home P.source P.name_of (plan self.old.table.now) self.old.number (reader_view self.old) (reader_view self.new) copies.version refused.why × (refused.copies ≡ copies)) }
         ensures table { self.new.table.now ≡ self.old.table.now }
+        ensures number { self.new.number ≡ self.old.number }
     {
         let (answer, front, left) = push_in_turn(
             self.table,
