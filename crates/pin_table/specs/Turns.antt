@@ -39,6 +39,10 @@ pub record WaitsForTurn (v v' : View) : Type 0 where
   pub holder : Option ℕ
   pub view : v' ≡ record v { refused = v.refused + often; holder = holder }
 
+-- the reader met the turn some number of times, and from there the fact holds
+abbrev pub AfterWait : View → (View → Type 0) → Type 0
+AfterWait v fact = (w : View) × WaitsForTurn v w × fact w
+
 -- ---- lists ----
 
 module _ {P H : Type 0} (home : P → H) (name_of : H → ℕ → List ℕ) where

@@ -12,7 +12,7 @@ ghost use Rattle.pin_table.specs.Position.{IsAfter};
 ghost use Rattle.pin_table.specs.Reader.{reader_view};
 ghost use Rattle.pin_table.specs.Seat.{knowing};
 ghost use Rattle.pin_table.specs.Table.{IsAt, plan};
-ghost use Rattle.pin_table.specs.Turns.{MeetsTurn, TriesErase, Erases, listed_after, erase_answer, view_after_erase};
+ghost use Rattle.pin_table.specs.Turns.{MeetsTurn, TriesErase, Erases, AfterWait, listed_after, erase_answer, view_after_erase};
 
 use crate::answers::{Busy, EraseWhy, Erased};
 use crate::hand::Hand;
@@ -24,6 +24,8 @@ use crate::steps::store_erase;
 use crate::table::PinTable;
 use crate::turns::{front_in, give_turn_back, take_turn};
 use pin_book::{AfterError, Book, Payload};
+use std::sync::Wait;
+use std::thread;
 
 /// Erases the version behind that of number `after`, and returns its number.
 fn store_erased<P: Payload>(
@@ -118,6 +120,7 @@ impl<'t, P: Payload> Reader<'t, P> {
         requires made { MadeBy P.home P.source (plan self.old.table.now) (reader_view self.old) handle.now }
         ensures erased { TriesErase (plan self.old.table.now) self.old.number handle.now.number (reader_view self.old) (reader_view self.new) result }
         ensures table { self.new.table.now ≡ self.old.table.now }
+        ensures number { self.new.number ≡ self.old.number }
     {
         let (answer, front, left) = erase_in_turn(
             self.table,
@@ -129,5 +132,21 @@ impl<'t, P: Payload> Reader<'t, P> {
         self.seen = front;
         self.allowance = left;
         answer
+    }
+
+    /// Erases the version behind that of a handle of this reader, once no other reader has the turn.
+    pub fn erase_after<R: Wait>(&mut self, rt: &R, handle: &Pinned<P>) -> Result<Erased, EraseWhy>
+        requires made { MadeBy P.home P.source (plan self.old.table.now) (reader_view self.old) handle.now }
+        ensures erased { AfterWait (reader_view self.old) (λ v. Erases (plan self.old.table.now).slots self.old.number handle.now.number v (reader_view self.new) result) }
+        ensures table { self.new.table.now ≡ self.old.table.now }
+        ensures number { self.new.number ≡ self.old.number }
+    {
+        for _ in rt.forever() {
+            match self.try_erase_after(handle) {
+                Err(EraseWhy::Busy { holder: _ }) => thread::yield_now(),
+                answer => return answer,
+            }
+        }
+        unreachable!()
     }
 }

@@ -4,7 +4,7 @@ ghost use Rattle.pin_table.specs.Idle.{IsIdle};
 ghost use Rattle.pin_table.specs.Position.{IsAfter};
 ghost use Rattle.pin_table.specs.Reader.{reader_view};
 ghost use Rattle.pin_table.specs.Table.{IsAt, plan};
-ghost use Rattle.pin_table.specs.Turns.{MeetsTurn, Lists};
+ghost use Rattle.pin_table.specs.Turns.{MeetsTurn, Lists, AfterWait};
 
 use crate::answers::{Busy, Listing};
 use crate::hand::Hand;
@@ -13,6 +13,8 @@ use crate::reader::Reader;
 use crate::table::PinTable;
 use crate::turns::{front_in, give_turn_back, rows_in, take_turn};
 use pin_book::Payload;
+use std::sync::Wait;
+use std::thread;
 
 /// Lists the versions in a turn, with the front.
 fn list_in_turn<P: Payload>(
@@ -44,9 +46,25 @@ impl<'t, P: Payload> Reader<'t, P> {
         ensures listed { IfOk result (λ listing. Lists P.home P.name_of (plan self.old.table.now) (reader_view self.old) (reader_view self.new) listing) }
         ensures busy { IfErr result (λ busy. MeetsTurn (plan self.old.table.now) self.old.number (reader_view self.old) (reader_view self.new) busy.holder) }
         ensures table { self.new.table.now ≡ self.old.table.now }
+        ensures number { self.new.number ≡ self.old.number }
     {
         let (listing, front) = list_in_turn(self.table, &mut self.hand, self.number)?;
         self.seen = front;
         Ok(listing)
+    }
+
+    /// Lists the versions, newest first, once no other reader has the turn.
+    pub fn list<R: Wait>(&mut self, rt: &R) -> Listing
+        ensures listed { AfterWait (reader_view self.old) (λ v. Lists P.home P.name_of (plan self.old.table.now) v (reader_view self.new) result) }
+        ensures table { self.new.table.now ≡ self.old.table.now }
+        ensures number { self.new.number ≡ self.old.number }
+    {
+        for _ in rt.forever() {
+            match self.try_list() {
+                Ok(listing) => return listing,
+                Err(_) => thread::yield_now(),
+            }
+        }
+        unreachable!()
     }
 }
