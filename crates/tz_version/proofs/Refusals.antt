@@ -1,5 +1,6 @@
 -- A version is made, or the leap text is refused, or the source, and not two of these.
 use Rattle.std.proofs.Common.{◌≡◌, ℕ, ◌↔◌, List, Some, Result, Ok, Err, slice_get, refl, sym, ap, ◌∙◌, subst}
+use Rattle.std.specs.Prelude.{IfOk, IfErr}
 use Rattle.tz_types.specs.declared.fault.Fault.{Fault}
 use Rattle.tz_types.specs.declared.fault.LineFault.{LineFault}
 use Rattle.tz_types.specs.declared.source.Source.{Source}
@@ -68,3 +69,8 @@ exact_text sources src (Err (errors.Text other)) fault is some = (
   (λ same. let one : other ≡ fault = cc in subst (λ (f : Fault). RefusesSource sources src f) one is),
   (λ refused. ap (λ (f : Fault). Err (errors.Text f)) (one_source_fault sources src other fault is refused)),
 )
+
+-- what a reader of versions answers, by its two clauses
+pub told : (sources : Sources) (src : ℕ) (result : Result Release MakeError) → IfOk result (λ (version : Release). IsVersionOf sources src version) → IfErr result (λ (error : MakeError). MeansMakeError error sources src) → Answers sources src result
+told sources src (Ok version) ok refused = ok
+told sources src (Err error) ok refused = refused

@@ -76,6 +76,16 @@ impl Version {
     ///
     /// `NoMemory` may come at any time. Memory aside, `Leaps` comes exactly where the leap text is refused, with its fault, and
     /// `Text` exactly where the leap text is accepted and the source refused, with the source's.
+    pub fn read(alloc: Global, sources: &Shared<Sources>, src: u32) -> Result<Self, MakeError>
+        requires { src < length sources.now.texts }
+        ensures ok { IfOk result (λ version. IsVersionOf sources.now src version) }
+        ensures leaps { (fault : Fault) → ¬ (result ≡ Err MakeError.NoMemory) → (result ≡ Err (MakeError.Leaps fault)) ↔ RefusesLeapText sources.now.leaps fault }
+        ensures text { (fault : Fault) → ¬ (result ≡ Err MakeError.NoMemory) → (result ≡ Err (MakeError.Text fault)) ↔ RefusesSource sources.now src fault }
+    {
+        Version::of_source(alloc, sources, src)
+    }
+
+    /// Makes the version as `read` does, to be shared.
     pub fn make(
         alloc: Global,
         sources: &Shared<Sources>,
