@@ -12,7 +12,7 @@ ghost use Rattle.pin_table.specs.Claims.{FillsPlace, FreePlaces};
 ghost use Rattle.pin_book.specs.Book.{IsBook, list_of};
 ghost use Rattle.pin_book.specs.Names.{with_name};
 ghost use Rattle.pin_table.specs.declared.exchange.TheConstants.{MOST_CARRIED};
-ghost use Rattle.pin_table.specs.Turns.{PushAnswers, Pushes, RefusesPush};
+ghost use Rattle.pin_table.specs.Turns.{PushAnswers, Pushes, RefusesPush, AfterWait};
 ghost use Rattle.pin_book.specs.Sequence.{next_seq};
 ghost use Rattle.pin_table.specs.declared.cell.Cell.TheVariants.{Place};
 ghost use Rattle.pin_table.specs.Idle.{IsIdle};
@@ -38,6 +38,8 @@ use crate::steps::store_push;
 use crate::table::PinTable;
 use crate::turns::{front_in, give_turn_back, take_turn};
 use pin_book::{Book, Payload, Write};
+use std::sync::Wait;
+use std::thread;
 use tz_types::VersionText;
 
 /// Puts a shelf into a place that the seat carries.
@@ -265,5 +267,30 @@ impl<'t, P: Payload> Reader<'t, P> {
         self.seen = front;
         self.allowance = left;
         answer
+    }
+
+    /// Pushes the version that these are copies of, once no other reader has the turn.
+    pub fn push<R: Wait>(&mut self, rt: &R, copies: Copies<P>) -> Result<Pushed, PushRefused<P>>
+        requires copies { (copies.readers ≡ (plan self.old.table.now).readers) × (P.home copies.version ≡ P.home (plan self.old.table.now).first) }
+        ensures pushed { IfOk result (λ pushed. AfterWait (reader_view self.old) (λ v. Pushes P.home P.source P.name_of (plan self.old.table.now) self.old.number v (reader_view self.new) copies.version (Ok pushed))) }
+        ensures refused { IfErr result (λ refused. AfterWait (reader_view self.old) (λ v. Pushes P.home P.source P.name_of (plan self.old.table.now) self.old.number v (reader_view self.new) copies.version (Err refused.why))) }
+        ensures copies { IfErr result (λ refused. refused.copies ≡ copies) }
+        ensures table { self.new.table.now ≡ self.old.table.now }
+        ensures number { self.new.number ≡ self.old.number }
+    {
+        let mut in_hand = copies;
+        for _ in rt.forever() {
+            match self.try_push(in_hand) {
+                Ok(pushed) => return Ok(pushed),
+                Err(PushRefused { why, copies: back }) => {
+                    let PushWhy::Busy { holder: _ } = why else {
+                        return Err(PushRefused { why, copies: back });
+                    };
+                    in_hand = back;
+                    thread::yield_now();
+                }
+            }
+        }
+        unreachable!()
     }
 }
