@@ -1,11 +1,10 @@
 -- What an erase leaves.
-use Rattle.std.proofs.Common.{◌≡◌, ℕ, ◌+◌, ◌<◌, ◌≤◌, List, [], ◌∷◌, ◌++◌, length, map, refl, sym, ap, ◌∙◌, subst, arith, Bool, true, false, not, ◌==◌, if◌then◌else◌, Result, Ok, Err}
+use Rattle.std.proofs.Common.{◌≡◌, ℕ, ◌+◌, ◌<◌, List, [], ◌∷◌, ◌++◌, length, map, refl, sym, ap, ◌∙◌, arith, Bool, true, false, not, ◌==◌, if◌then◌else◌, Result, Ok, Err}
 use Rattle.std.proofs.lemmas.Bool.{eqb-false}
 use Rattle.std.proofs.lemmas.List.{append-nil}
 use Rattle.pin_book.specs.declared.write.Write.{Write}
-use Rattle.pin_book.specs.declared.write.Change.TheVariants.{Push, Erase}
-use Rattle.pin_book.specs.Replay.{Edition, state_after, allowed, is_listed, greatest_below}
-use Rattle.pin_book.specs.Book.{Chronicle}
+use Rattle.pin_book.specs.declared.write.Change.TheVariants.{Erase}
+use Rattle.pin_book.specs.Replay.{state_after, allowed, is_listed, greatest_below}
 use Rattle.pin_book.proofs.BookLemmas.{asked_erase}
 use Rattle.pin_book.proofs.Journals as journals
 use Rattle.pin_core.specs.declared.view.View.{View}

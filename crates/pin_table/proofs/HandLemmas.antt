@@ -1,6 +1,6 @@
 -- What a reader's hand holds after a call that took the turn, or was refused it.
-use Rattle.std.proofs.Common.{◌≡◌, ◌≢◌, ℕ, zero, suc, ◌+◌, ◌*◌, ◌/◌, ◌<◌, ◌≤◌, List, [], ◌∷◌, ◌++◌, length, take, sym, refl, ap, ◌∙◌, subst, arith, true, false, ◌==◌, ne_eqb, Option, Some, None}
-use Rattle.std.specs.List.{Contains, All}
+use Rattle.std.proofs.Common.{◌≡◌, ◌≢◌, ℕ, suc, ◌<◌, List, [], ◌∷◌, length, take, sym, refl, ap, ◌∙◌, subst, arith, false, ne_eqb, Option, Some, None}
+use Rattle.std.specs.List.{Contains}
 use Rattle.std.proofs.lemmas.List.{take_all}
 use Rattle.atomic_table.specs.Table.{Me, rest}
 use Rattle.pin_book.specs.declared.write.Write.{Write}
@@ -17,8 +17,8 @@ use Rattle.pin_table.specs.declared.sitting.Plan.{Plan}
 use Rattle.pin_table.specs.declared.sitting.Sitting.{Sitting}
 use Rattle.pin_table.specs.Seat.{knowing}
 use Rattle.pin_table.specs.Carried.{slots_of}
-use Rattle.pin_table.specs.Handles.{HoldsFront, IsOwnPlace, CarriesPlaces, slot_of}
-use Rattle.pin_table.specs.Plays.{ForReader, GoesOn, TurnMissed, TurnGiven}
+use Rattle.pin_table.specs.Handles.{HoldsFront, CarriesPlaces, slot_of}
+use Rattle.pin_table.specs.Plays.{ForReader, GoesOn, TurnGiven}
 use Rattle.pin_table.specs.Idle.{IsIdle}
 use Rattle.pin_table.specs.BookHeld.{HoldsBook}
 use Rattle.pin_table.proofs.PlaceLemmas.{holds_later, places_later}

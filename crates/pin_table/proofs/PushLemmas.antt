@@ -1,14 +1,11 @@
 -- What a push asks and leaves.
-use Rattle.std.proofs.Common.{◌≡◌, ◌≢◌, ℕ, zero, suc, ◌+◌, ◌-◌, ◌<◌, ◌≤◌, List, [], ◌∷◌, ◌++◌, length, map, drop, replicate, refl, ⊎_elim, sym, ap, ◌∙◌, subst, arith, Bool, true, false, ◌==◌, ◌&&◌, eq-eqb, Option, Some, None, Result, Ok, Err}
+use Rattle.std.proofs.Common.{◌≡◌, ◌≢◌, ℕ, zero, suc, ◌+◌, ◌-◌, ◌<◌, List, [], ◌∷◌, ◌++◌, length, map, drop, replicate, refl, ⊎_elim, sym, ap, ◌∙◌, subst, arith, true, false, ◌==◌, ◌&&◌, eq-eqb, Result, Ok, Err}
 use Rattle.std.specs.Prelude.{IfOk, IfErr}
 use Rattle.std.specs.List.{Contains}
 use Rattle.std.proofs.lemmas.List.{map-append, length-replicate, get_or-map}
-use mathlib.Core.Option as maybe
-use lib.ListN.{get_elem?}
 use Rattle.atomic_table.specs.Table.{Me}
 use Rattle.pin_book.specs.declared.write.Write.{Write}
-use Rattle.pin_book.specs.declared.write.Change.{Change}
-use Rattle.pin_book.specs.declared.write.Change.TheVariants.{Push, Erase}
+use Rattle.pin_book.specs.declared.write.Change.TheVariants.{Push}
 use Rattle.pin_book.specs.Replay.{Edition, state_after, allowed, replays, front_number, front_of, is_taken}
 use Rattle.pin_book.specs.Pushes.{pushed_by}
 use Rattle.pin_book.specs.Book.{Chronicle, list_of}
@@ -24,7 +21,7 @@ use Rattle.pin_book.proofs.ReplayLemmas.{replay_orderly}
 use Rattle.pin_book.proofs.Journals as journals
 use Rattle.pin_core.specs.declared.entry.Entry.{Entry}
 use Rattle.pin_core.specs.declared.view.View.{View}
-use Rattle.pin_core.specs.Core.{total, one_if, times, held_at}
+use Rattle.pin_core.specs.Core.{total, one_if, times}
 use Rattle.pin_core.specs.Packing.{place}
 use Rattle.pin_core.specs.Step.{got_turn, gave_turn, stored, claiming}
 use Rattle.pin_table.specs.declared.answers.Pushed.{Pushed}

@@ -1,8 +1,7 @@
 -- How the places of a slot are filled, from the last to the first.
-use Rattle.std.proofs.Common.{◌≡◌, ◌≢◌, ◌⊎◌, ℕ, zero, suc, ◌+◌, ◌-◌, ◌<◌, ◌≤◌, List, [], ◌∷◌, ◌++◌, length, drop, take, replicate, refl, sym, ap, ◌∙◌, subst, ⊎_elim, inl, inr, arith, append_assoc, ◌==◌, eq-eqb, ne_eqb}
+use Rattle.std.proofs.Common.{◌≡◌, ◌⊎◌, ℕ, zero, suc, ◌+◌, ◌-◌, ◌<◌, ◌≤◌, List, [], ◌∷◌, ◌++◌, length, drop, replicate, refl, sym, ap, ◌∙◌, subst, ⊎_elim, inl, inr, arith, append_assoc, eq-eqb, ne_eqb}
 use mathlib.Core.Option.{some, some-ne-none, some-injective}
 use lib.ListN.{get_elem?}
-use Rattle.std.proofs.lemmas.List.{length-replicate}
 use Rattle.pin_core.specs.Core.{times, one_if}
 use Rattle.pin_table.specs.Carried.{slots_of, Exchanges}
 use Rattle.pin_table.specs.Runs.{run_from, CarriesRun}

@@ -1,17 +1,16 @@
 -- How a reader that has the turn goes over the slots.
-use Rattle.std.proofs.Common.{◌≡◌, ◌≢◌, ◌⊎◌, ℕ, zero, suc, ◌+◌, ◌*◌, ◌<◌, ◌≤◌, List, [], ◌∷◌, ◌++◌, length, filter, refl, sym, ap, ◌∙◌, subst, ⊎_elim, inl, inr, arith, Bool, true, false, not, ◌==◌, ◌&&◌, ne_eqb, if◌then◌else◌}
+use Rattle.std.proofs.Common.{◌≡◌, ◌⊎◌, ℕ, zero, suc, ◌+◌, ◌<◌, ◌≤◌, List, [], ◌∷◌, ◌++◌, length, filter, refl, sym, ap, ◌∙◌, subst, ⊎_elim, arith, Bool, true, false, not, ◌==◌, ◌&&◌, ne_eqb, if◌then◌else◌}
 use Rattle.std.specs.Prelude.{nat_lt}
-use Rattle.std.specs.List.{All, Contains, range_with_len}
-use Rattle.std.proofs.lemmas.Bool.{cond-true, cond-false, lt-ltb, le-ltb}
-use Rattle.std.proofs.lemmas.List.Elements.{filter-append, Contains-append_cases, Contains-push_cases}
+use Rattle.std.specs.List.{Contains, range_with_len}
+use Rattle.std.proofs.lemmas.Bool.{cond-true, cond-false, le-ltb}
+use Rattle.std.proofs.lemmas.List.Elements.{filter-append, Contains-push_cases}
 use Rattle.atomic_table.specs.Table.{Me}
 use Rattle.pin_book.specs.declared.write.Write.{Write}
 use Rattle.pin_book.specs.Replay.{is_taken}
 use Rattle.pin_core.specs.declared.entry.Entry.{Entry}
 use Rattle.pin_core.specs.declared.view.View.{View}
-use Rattle.pin_core.specs.Core.{total, one_if, held_at, pins_at}
-use Rattle.pin_core.specs.Packing.{place}
-use Rattle.pin_core.specs.Step.{with_number, found_pinned, claiming}
+use Rattle.pin_core.specs.Core.{total, one_if, held_at}
+use Rattle.pin_core.specs.Step.{with_number}
 use Rattle.pin_table.specs.declared.cell.Cell.{Cell}
 use Rattle.pin_table.specs.declared.sitting.Plan.{Plan}
 use Rattle.pin_table.specs.declared.sitting.Sitting.{Sitting}
@@ -19,7 +18,7 @@ use Rattle.pin_table.specs.Seat.{knowing}
 use Rattle.pin_table.specs.Carried.{slots_of}
 use Rattle.pin_table.specs.Runs.{run_slots, run_from}
 use Rattle.pin_table.specs.Plays.{SlotPinned, SlotClaimed}
-use Rattle.pin_table.specs.Turns.{unlisted_below, FoundPinned, finding}
+use Rattle.pin_table.specs.Turns.{unlisted_below, finding}
 use Rattle.pin_table.specs.Claims.{PassesSlot, PassesBelow, ClaimsLeast}
 use Rattle.pin_table.proofs.ExchangeLemmas.{head_among, tail_among, among_one_more}
 

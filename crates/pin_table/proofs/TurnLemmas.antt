@@ -1,16 +1,14 @@
 -- What a reader carries and knows from the moment at which it takes the turn until it gives it back.
-use Rattle.std.proofs.Common.{◌≡◌, ◌≢◌, ℕ, zero, suc, ◌+◌, ◌<◌, ◌≤◌, List, [], ◌∷◌, ◌++◌, length, take, sym, refl, ap, ◌∙◌, subst, ⊎_elim, arith, true, false, ◌==◌, eq-eqb, None}
-use Rattle.std.proofs.lemmas.Bool.{cases_eq}
+use Rattle.std.proofs.Common.{◌≡◌, ℕ, ◌<◌, ◌≤◌, List, [], ◌∷◌, ◌++◌, length, sym, refl, ap, ◌∙◌, subst, arith, true, eq-eqb}
 use Rattle.atomic_table.specs.Table.{Me, rest}
 use Rattle.pin_book.specs.declared.write.Write.{Write}
 use Rattle.pin_book.specs.Book.{Chronicle}
 use Rattle.pin_book.specs.Replay.{state_after, replays}
 use Rattle.pin_book.proofs.ReplayLemmas.{replay_orderly}
 use Rattle.pin_book.proofs.ListLemmas.{few_listed}
-use Rattle.pin_core.specs.declared.view.View.{View}
 use Rattle.pin_core.specs.Core.{times, one_if}
-use Rattle.pin_core.specs.Step.{got_turn, gave_turn}
-use Rattle.pin_core.specs.Packing.{book_place, packed_turn}
+use Rattle.pin_core.specs.Step.{gave_turn}
+use Rattle.pin_core.specs.Packing.{book_place}
 use Rattle.pin_table.specs.declared.cell.Cell.{Cell}
 use Rattle.pin_table.specs.declared.cell.Cell.TheVariants.{Empty, Desk}
 use Rattle.pin_table.specs.declared.sitting.Plan.{Plan}

@@ -1,17 +1,15 @@
 -- What the reader that has the turn needs for a write, and what a write leaves.
-use Rattle.std.proofs.Common.{◌≡◌, ◌≢◌, ℕ, zero, suc, ◌+◌, ◌*◌, ◌^◌, ◌<◌, ◌≤◌, List, [], ◌∷◌, ◌++◌, length, take, sym, refl, ap, ◌∙◌, subst, arith, true, false, Option, Some, None, not}
-use Rattle.std.specs.List.{Contains, All}
+use Rattle.std.proofs.Common.{◌≡◌, ℕ, ◌^◌, ◌<◌, ◌≤◌, List, [], ◌∷◌, ◌++◌, length, take, sym, ap, ◌∙◌, subst, arith, true, false, None}
+use Rattle.std.specs.List.{Contains}
 use Rattle.std.proofs.lemmas.List.{take-append-le}
 use Rattle.pin_book.specs.declared.write.Write.{Write}
-use Rattle.pin_book.specs.declared.write.Change.TheVariants.{Push, Erase}
-use Rattle.pin_book.specs.Replay.{state_after, allowed, replays, front_number, front_slot, kept_number}
+use Rattle.pin_book.specs.Replay.{replays, front_number, kept_number}
 use Rattle.pin_book.proofs.BookLemmas.{pushes_le}
 use Rattle.pin_book.proofs.Journals.{front_slot_inside}
 use Rattle.pin_book.proofs.ReplayLemmas.{replay_orderly}
 use Rattle.pin_core.specs.declared.entry.Entry.{Entry}
 use Rattle.pin_core.specs.declared.view.View.{View}
 use Rattle.pin_core.specs.Lawful.{entry_number}
-use Rattle.pin_core.specs.Step.{got_turn, gave_turn, stored}
 use Rattle.pin_table.specs.declared.position.Position.{Position}
 use Rattle.pin_table.specs.Position.{IsAfter}
 use Rattle.pin_table.specs.Plays.{GoesOn}

@@ -1,13 +1,11 @@
-use Rattle.std.proofs.Common.{◌≡◌, ◌≤◌, ◌∙◌, subst, sym, ap, arith, length, Some}
+use Rattle.std.proofs.Common.{◌∙◌, sym, ap, arith, length, Some}
 use Rattle.std.proofs.lemmas.List.{length-map}
 use Rattle.atomic_table.specs.Table.{rest}
 use Rattle.pin_core.specs.Core.{times}
 use Rattle.pin_core.specs.Packing.{book_place}
 use Rattle.pin_core.specs.Step.{was_refused, got_turn, gave_turn}
-use Rattle.pin_book.specs.Book.{Chronicle}
 use Rattle.pin_table.specs.Carried.{slots_of}
 use Rattle.pin_table.specs.Table.{plan}
-use Rattle.pin_table.specs.Idle.{IsIdle}
 use Rattle.pin_table.specs.Sources.{book_of}
 use Rattle.pin_table.specs.Turns.{view_after_erase, erase_answer}
 use Rattle.pin_table.proofs.PlaceLemmas.{few_carried}

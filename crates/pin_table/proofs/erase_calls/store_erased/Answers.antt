@@ -1,6 +1,5 @@
-use Rattle.std.proofs.Common.{◌≡◌, ◌∙◌, ap, arith}
+use Rattle.std.proofs.Common.{◌∙◌, ap, arith}
 use Rattle.pin_book.specs.Book.{Chronicle}
-use Rattle.pin_table.specs.Table.{plan}
 use Rattle.pin_table.proofs.WriteLemmas.{front_fits}
 use Rattle.pin_table.proofs.erase_calls.store_erased.Goals as goal
 

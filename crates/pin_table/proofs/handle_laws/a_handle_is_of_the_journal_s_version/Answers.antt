@@ -1,4 +1,4 @@
-use Rattle.std.proofs.Common.{ap, sym, subst, ◌∙◌}
+use Rattle.std.proofs.Common.{ap, sym, ◌∙◌}
 use Rattle.pin_table.specs.Handles.{entry_of}
 use Rattle.pin_table.specs.Sources.{source_of}
 use Rattle.pin_table.proofs.HandleMoves.{source_now}

@@ -1,4 +1,4 @@
-use Rattle.std.proofs.Common.{◌≡◌, ◌≤◌, ◌∙◌, subst, sym, ap, arith, length, Some}
+use Rattle.std.proofs.Common.{◌≤◌, ◌∙◌, subst, sym, ap, arith, length, Some}
 use Rattle.std.proofs.lemmas.List.{length-map}
 use Rattle.pin_core.specs.Core.{times}
 use Rattle.pin_core.specs.Packing.{book_place}
@@ -6,7 +6,6 @@ use Rattle.pin_core.specs.Step.{was_refused, got_turn, gave_turn}
 use Rattle.pin_book.specs.Book.{list_of}
 use Rattle.pin_table.specs.Carried.{slots_of}
 use Rattle.pin_table.specs.Table.{plan}
-use Rattle.pin_table.specs.Idle.{IsIdle}
 use Rattle.pin_table.proofs.PlaceLemmas.{few_carried}
 use Rattle.pin_table.proofs.TurnLemmas.{few_rows}
 use Rattle.pin_table.proofs.HandLemmas.{refused_leaves, turn_leaves, idle_seat, places_seat, book_apart, carried_behind, turn_seat}

@@ -3,10 +3,9 @@ use Rattle.std.proofs.lemmas.Bool.{false≢true}
 use Rattle.pin_book.specs.declared.write.Change.TheVariants.{Push}
 use Rattle.pin_book.specs.Replay.{front_number}
 use Rattle.pin_core.specs.Step.{stored, claiming}
-use Rattle.pin_table.specs.Claims.{ClaimsLeast}
 use Rattle.pin_table.specs.Table.{plan}
 use Rattle.pin_table.specs.Turns.{version_name, front_name, finding, PushesVersion}
-use Rattle.pin_table.proofs.PushLemmas.{front_knows, rest_of, claimed_run, pushed_seat}
+use Rattle.pin_table.proofs.PushLemmas.{front_knows, claimed_run, pushed_seat}
 use Rattle.pin_table.proofs.WriteLemmas.{front_fits}
 use Rattle.pin_table.proofs.push_calls.push_by_book.Goals as goal
 

@@ -1,17 +1,16 @@
-use Rattle.std.proofs.Common.{Contains, true, ◌<◌, List, ◌==◌, ne_eqb, ◌≡◌, ◌≤◌, ◌∙◌, subst, sym, ap, arith, length, Some}
+use Rattle.std.proofs.Common.{Contains, true, ne_eqb, ◌≡◌, ◌∙◌, subst, sym, ap, arith, length, Some}
 use Rattle.std.proofs.lemmas.List.{length-map}
 use Rattle.atomic_table.specs.Table.{rest}
 use Rattle.pin_core.specs.declared.entry.Entry.{Entry}
 use Rattle.pin_core.specs.Core.{times, one_if}
 use Rattle.pin_core.specs.Packing.{place, book_place}
-use Rattle.pin_core.specs.Step.{was_refused, got_turn, gave_turn}
+use Rattle.pin_core.specs.Step.{was_refused, gave_turn}
 use Rattle.pin_table.specs.Carried.{slots_of}
 use Rattle.pin_table.specs.Table.{plan}
 use Rattle.pin_table.specs.Claims.{FreePlaces}
-use Rattle.pin_table.specs.Idle.{IsIdle}
 use Rattle.pin_table.proofs.PlaceLemmas.{few_carried}
 use Rattle.pin_table.proofs.HandLemmas.{refused_leaves, idle_seat, places_seat, book_apart, place_free, carried_behind, step_seat}
-use Rattle.pin_table.proofs.PushLemmas.{push_left, refuses}
+use Rattle.pin_table.proofs.PushLemmas.{push_left}
 use Rattle.pin_table.proofs.push_calls.push_in_turn.Goals as goal
 
 pub take_turn-requires-clause-few : goal.take_turn-requires-clause-few

@@ -1,7 +1,6 @@
-use Rattle.std.proofs.Common.{◌≡◌, ◌+◌, ◌-◌, ◌∙◌, suc, replicate, ap, sym, subst, arith, length}
+use Rattle.std.proofs.Common.{◌≡◌, ◌+◌, ◌-◌, ◌∙◌, suc, replicate, ap, sym, subst, arith}
 use Rattle.pin_core.specs.Core.{times}
-use Rattle.pin_core.specs.Packing.{place}
-use Rattle.pin_table.specs.Carried.{slots_of, Exchanges}
+use Rattle.pin_table.specs.Carried.{Exchanges}
 use Rattle.pin_table.specs.Runs.{CarriesRun}
 use Rattle.pin_table.specs.Shelf.{full_shelf}
 use Rattle.pin_table.specs.declared.cell.Cell.TheVariants.{Place}

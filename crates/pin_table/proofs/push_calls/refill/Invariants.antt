@@ -1,4 +1,4 @@
-use Rattle.std.proofs.Common.{◌≡◌, ◌≤◌, ◌+◌, ◌-◌, ◌++◌, length, drop, List, replicate}
+use Rattle.std.proofs.Common.{◌≡◌, ◌≤◌, replicate}
 use Rattle.pin_table.specs.declared.cell.Cell.TheVariants.{Place}
 use Rattle.pin_table.specs.Carried.{slots_of}
 use Rattle.pin_table.specs.Shelf.{full_shelf}

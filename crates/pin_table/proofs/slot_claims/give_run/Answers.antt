@@ -1,4 +1,4 @@
-use Rattle.std.proofs.Common.{◌≡◌, ◌∙◌, ap, drop}
+use Rattle.std.proofs.Common.{◌∙◌, ap, drop}
 use Rattle.std.proofs.Math.Seq.{drop-drop}
 use Rattle.pin_table.proofs.slot_claims.give_run.Goals as goal
 

@@ -1,4 +1,4 @@
-use Rattle.std.proofs.Common.{◌≡◌, ◌++◌, ◌∙◌, ap, sym, length, arith}
+use Rattle.std.proofs.Common.{◌≡◌, ◌++◌, ◌∙◌, ap, sym, arith}
 use Rattle.pin_book.specs.Replay.{kept_number}
 use Rattle.pin_core.specs.Packing.{place, packed_slot}
 use Rattle.pin_table.specs.Carried.{slots_of}

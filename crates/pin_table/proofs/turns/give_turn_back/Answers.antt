@@ -1,4 +1,4 @@
-use Rattle.std.proofs.Common.{sym, ◌∙◌, ap, subst}
+use Rattle.std.proofs.Common.{◌∙◌, ap, subst}
 use Rattle.pin_core.specs.Packing.{book_place}
 use Rattle.pin_table.specs.declared.cell.Cell.TheVariants.{Desk}
 use Rattle.pin_table.specs.Carried.{Exchanges}
