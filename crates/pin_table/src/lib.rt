@@ -30,6 +30,7 @@ mod copies;
 mod erase_calls;
 mod exchange;
 mod hand;
+mod handle_laws;
 mod layout;
 mod listing_calls;
 mod main_seat;
@@ -59,6 +60,9 @@ pub use cell::Cell;
 pub use copies::Copies;
 pub use exchange::{Carried, MOST_CARRIED};
 pub use hand::Hand;
+pub use handle_laws::{
+    a_handle_is_of_the_journal_s_version, a_handle_stays, what_is_seen_never_goes_back,
+};
 pub use layout::{FIRST_SLOT_WORD, FRONT_WORD, TURN_WORD, WORD_STRIDE};
 pub use main_seat::Main;
 pub use no_reader::NoReader;
