@@ -52,12 +52,13 @@ module _ {S : Type 0} where
     pub others_same : times slot (slots_of c) ≡ 1 → (x : ℕ × S) → Contains (h.behind ++ h.before) x → Contains c x × (x.0 ≢ slot)
     others_same once x among =
         let was = ap (λ l. times slot (slots_of l)) h.was ∙ times_both slot h.before ((slot, old) ∷ h.behind) in
-        let one = ap one_if (eq-eqb slot slot refl) in let both = times_both slot h.behind h.before in
-        (subst (λ l. Contains l x) (sym h.was) (⊎_elim
-            (λ behind. Contains-append_right h.before ((slot, old) ∷ h.behind) x (tail_among (slot, old) h.behind x behind))
-            (λ before. Contains-append_left h.before ((slot, old) ∷ h.behind) x before)
-            (Contains-append_cases h.behind h.before x among)),
-        not_there slot (h.behind ++ h.before) x (omega arith) among)
+        let one = ap one_if (eq-eqb slot slot refl) in let both = times_both slot h.behind h.before in (
+          subst (λ l. Contains l x) (sym h.was) (⊎_elim
+              (λ behind. Contains-append_right h.before ((slot, old) ∷ h.behind) x (tail_among (slot, old) h.behind x behind))
+              (λ before. Contains-append_left h.before ((slot, old) ∷ h.behind) x before)
+              (Contains-append_cases h.behind h.before x among)),
+          not_there slot (h.behind ++ h.before) x (omega arith) among,
+        )
 
     pub now_carried : times slot (slots_of c) ≡ 1 → (x : ℕ × S) → Contains c' x → ((slot, new) ≡ x) ⊎ (Contains c x × (x.0 ≢ slot))
     now_carried once x among = ⊎_elim (λ is. inl is) (λ other. inr (others_same once x other)) (among_one_more (slot, new) (h.behind ++ h.before) x (subst (λ l. Contains l x) h.is among))
@@ -80,7 +81,7 @@ module _ {S : Type 0} where
   pub exchanged_twice : (slot : ℕ) (old middle found new : S) (c c1 c2 : List (ℕ × S)) → times slot (slots_of c) ≡ 1 → Exchanges slot old middle c c1 → Exchanges slot found new c1 c2 → Exchanges slot old new c c2
   exchanged_twice slot old middle found new c c1 c2 once one two =
       let head = at_head_already slot middle found new (one.behind ++ one.before) c2 (ap (λ l. times slot (slots_of l)) (sym one.is) ∙ same_slots slot old middle c c1 one slot ∙ once)
-          (subst (λ l. Exchanges slot found new l c2) one.is two) in record {
+      (subst (λ l. Exchanges slot found new l c2) one.is two) in record {
         before = one.before;
         behind = one.behind;
         was = one.was;

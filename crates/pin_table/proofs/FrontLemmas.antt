@@ -143,7 +143,7 @@ not_missing es slot w among missing = not_none (stands_at slot w) es (before_end
     before_end (x ∷ xs) here = ⊎_elim
         (λ (yes : stands_at slot w x ≡ true). rw yes (omega arith))
         (λ (else : stands_at slot w x ≡ false). ⊎_elim
-            (λ is. absurd (let both = sym else ∙ ap (stands_at slot w) is ∙ passes in cc))
-            (λ later. let more = before_end xs later in rw else (omega arith))
-            (among_one_more x xs record { slot = slot; position = w; held = true } here))
+        (λ is. absurd (let both = sym else ∙ ap (stands_at slot w) is ∙ passes in cc))
+        (λ later. let more = before_end xs later in rw else (omega arith))
+        (among_one_more x xs record { slot = slot; position = w; held = true } here))
         (cases_Bool (stands_at slot w x))

@@ -39,7 +39,7 @@ some_there slot [] held some = absurd (cc)
 some_there slot (e ∷ es) held some = ⊎_elim
     (λ (here : (e.slot == slot) ≡ true). let one : one_if ((e.slot == slot) && e.held) ≡ 1 = rw (here, held e (head_among e es)) refl in omega arith)
     (λ (else : (e.slot == slot) ≡ false). let later : list_any (λ (x : Entry). x.slot == slot) es ≡ true = sym (ap (λ b. b || list_any (λ (x : Entry). x.slot == slot) es) else) ∙ some in
-        let more = some_there slot es (λ x among. held x (tail_among e es x among)) later in omega arith)
+    let more = some_there slot es (λ x among. held x (tail_among e es x among)) later in omega arith)
     (cases_Bool (e.slot == slot))
 
 -- where all hold a front, there are as many handles as pins
@@ -98,10 +98,10 @@ module _ {P H : Type 0} (home : P → H) (source : P → ℕ) (plan : Plan P) (n
   pub pin_carries : CarriesFor home source plan number small v e m'.1
   pin_carries = ⊎_elim
       (λ (there : list_any (λ (x : Entry). x.slot == e.slot) v.entries ≡ true). let more = some_there e.slot v.entries (λ x among. (held x among).held) there in
-          subst (CarriesFor home source plan number small v e) (sym (step.further more).1)
-              (carries_further home source plan number small v e some replay held (added_holds plan.slots v some replay) m.1 more carries))
+      subst (CarriesFor home source plan number small v e) (sym (step.further more).1)
+      (carries_further home source plan number small v e some replay held (added_holds plan.slots v some replay) m.1 more carries))
       (λ (none : list_any (λ (x : Entry). x.slot == e.slot) v.entries ≡ false). let nothing = none_there e.slot v.entries none in
-          carries_first home source plan number small v e some replay held (added_holds plan.slots v some replay) m.1 m'.1 (front_number plan.slots v.seen) nothing (sym (added_source plan.slots v some replay)) carries (step.first shown nothing))
+      carries_first home source plan number small v e some replay held (added_holds plan.slots v some replay) m.1 m'.1 (front_number plan.slots v.seen) nothing (sym (added_source plan.slots v some replay)) carries (step.first shown nothing))
       (cases_Bool (list_any (λ (x : Entry). x.slot == e.slot) v.entries))
 
 -- ---- a pin that missed ----
@@ -142,4 +142,4 @@ module _ {P H : Type 0} (home : P → H) (source : P → ℕ) (plan : Plan P) (n
   pub missed_places : AreAllHeld plan.slots m.0.core → CarriesPlaces home source plan number m.0.core m.1 → CarriesPlaces home source plan number m3.0.core m3.1
   missed_places held h =
       subst (λ (w : Sitting P). CarriesPlaces home source plan number w.core m3.1) (sym missed_view) (subst (CarriesPlaces home source plan number (record (loaded loads.journal m.0.core) { pins = m.0.core.pins + 1 })) (sym missed_carried)
-          (places_later home source plan number m.0.core (record (loaded loads.journal m.0.core) { pins = m.0.core.pins + 1 }) (λ x among. (held x among).told) goes.grows m.1 refl h))
+      (places_later home source plan number m.0.core (record (loaded loads.journal m.0.core) { pins = m.0.core.pins + 1 }) (λ x among. (held x among).told) goes.grows m.1 refl h))

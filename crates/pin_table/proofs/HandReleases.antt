@@ -159,9 +159,9 @@ module _ {P H : Type 0} (home : P → H) (source : P → ℕ) (plan : Plan P) (n
         carries_after_last last = record {
           once = λ slot inside. let head = ap (λ l. times (place slot number) (slots_of l)) put.is.is in ⊎_elim
               (λ (is : e.slot ≡ slot). let one = ap one_if (eq-eqb at (place slot number) (ap (λ m. place m number) is)) in let before = same_slots at (Place put.others) full c c1 put.is (place slot number) in
-                  let once = ap (λ m. times (place m number) (slots_of c)) (sym is) ∙ own_once in
-                  let then = held_then slot in let mine = ap one_if (eq-eqb e.slot slot is) in let all = ap (λ m. held_at m v) (sym is) in
-                  let nothing : held_at slot v' ≡ 0 = (omega arith) in let none = ap (λ n. one_if (nat_lt 0 n)) nothing in omega arith)
+              let once = ap (λ m. times (place m number) (slots_of c)) (sym is) ∙ own_once in
+              let then = held_then slot in let mine = ap one_if (eq-eqb e.slot slot is) in let all = ap (λ m. held_at m v) (sym is) in
+              let nothing : held_at slot v' ≡ 0 = (omega arith) in let none = ap (λ n. one_if (nat_lt 0 n)) nothing in omega arith)
               (λ (else : e.slot ≢ slot). let none = ap one_if (ne_eqb at (place slot number) (λ same. else (omega arith))) in let before = once_else slot inside else in omega arith)
               (cases_eq e.slot slot);
           only = λ x stands. let was = others_same at (Place put.others) full c c1 put.is own_once x stands in apart x (h.only x was.0) was.1;
@@ -173,7 +173,7 @@ module _ {P H : Type 0} (home : P → H) (source : P → ℕ) (plan : Plan P) (n
         carries_after_one several = record {
           once = λ slot inside. ⊎_elim
               (λ (is : e.slot ≡ slot). let then = held_then slot in let mine = ap one_if (eq-eqb e.slot slot is) in let all = ap (λ m. held_at m v) (sym is) in
-                  same_slots at (Place put.others) full c c1 put.is (place slot number) ∙ ap (λ m. times (place m number) (slots_of c)) (sym is) ∙ own_once ∙ sym (some_more (held_at slot v') (omega arith)))
+              same_slots at (Place put.others) full c c1 put.is (place slot number) ∙ ap (λ m. times (place m number) (slots_of c)) (sym is) ∙ own_once ∙ sym (some_more (held_at slot v') (omega arith)))
               (λ (else : e.slot ≢ slot). once_else slot inside else)
               (cases_eq e.slot slot);
           only = λ x stands. ⊎_elim

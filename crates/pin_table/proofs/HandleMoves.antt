@@ -146,10 +146,10 @@ module _ {P H : Type 0} (home : P → H) (source : P → ℕ) where
       carries_first c c1 n none same h t = subst (CarriesFor v e) (sym t.is) record {
         once = λ slot inside. ⊎_elim
             (λ (is : e.slot ≡ slot). let here = ap one_if (eq-eqb (place e.slot number) (place slot number) (ap (λ m. place m number) is)) in let before = h.once slot inside in
-                let zero_held = ap (λ m. held_at m v) (sym is) ∙ none in let zero_times = ap (λ m. one_if (nat_lt 0 m)) zero_held in
-                let one = ap one_if (eq-eqb e.slot slot is) in let more = some_more (held_at slot v + one_if (e.slot == slot)) (omega arith) in omega arith)
+            let zero_held = ap (λ m. held_at m v) (sym is) ∙ none in let zero_times = ap (λ m. one_if (nat_lt 0 m)) zero_held in
+            let one = ap one_if (eq-eqb e.slot slot is) in let more = some_more (held_at slot v + one_if (e.slot == slot)) (omega arith) in omega arith)
             (λ (no : e.slot ≢ slot). let else = ap one_if (ne_eqb (place e.slot number) (place slot number) (λ is. no (omega arith))) in let before = h.once slot inside in
-                let same_sum : held_at slot v ≡ held_at slot v + one_if (e.slot == slot) = (let zero_one = ap one_if (ne_eqb e.slot slot no) in omega arith) in let same_test = ap (λ m. one_if (nat_lt 0 m)) same_sum in omega arith)
+            let same_sum : held_at slot v ≡ held_at slot v + one_if (e.slot == slot) = (let zero_one = ap one_if (ne_eqb e.slot slot no) in omega arith) in let same_test = ap (λ m. one_if (nat_lt 0 m)) same_sum in omega arith)
             (cases_eq e.slot slot);
         others = λ x among other. ⊎_elim (λ head. absurd (other (ap (λ (y : ℕ × Cell P H). y.0) (sym head)))) (λ tail. h.only x tail) (among_one_more (place e.slot number, t.cell) c x among);
         here = λ x among is. ⊎_elim
@@ -222,9 +222,9 @@ module _ {P H : Type 0} (home : P → H) (source : P → ℕ) where
                     place = refl;
                     many = (let many = stock.many in omega arith);
                     alike = λ y among at. subst (λ src. All (IsOf home source (home plan.first) src) t.others) (sym (src_now y ∙ ⊎_elim
-                            (λ old. same_source plan.slots v.seen y e some replay (held y old) holds (at ∙ back))
-                            (λ new. ap (entry_source plan.slots v.seen) (sym new))
-                            (either y among)))
+                        (λ old. same_source plan.slots v.seen y e some replay (held y old) holds (at ∙ back))
+                        (λ new. ap (entry_source plan.slots v.seen) (sym new))
+                        (either y among)))
                         (All-tail (IsOf home source (home plan.first) (entry_source plan.slots v.seen e)) version t.others stock.alike);
                   };
                 }

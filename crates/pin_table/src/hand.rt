@@ -150,7 +150,13 @@ fn take_copy<P: Payload>(
         unreachable!()
     };
     let (copy, others) = shelf.take();
-    exchange(&table.base.shared, seat, carried, place, Cell::Place(others));
+    exchange(
+        &table.base.shared,
+        seat,
+        carried,
+        place,
+        Cell::Place(others),
+    );
     copy
 }
 

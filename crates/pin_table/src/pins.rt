@@ -67,7 +67,10 @@ impl<'t, P: Payload> Reader<'t, P> {
         let Position { w, n, slot } = self.seen;
         let first = !is_pinned(self.entries.as_slice(), slot);
         let count = self.entries.len();
-        match self.hand.pin(self.table, self.number, self.seen, count, first) {
+        match self
+            .hand
+            .pin(self.table, self.number, self.seen, count, first)
+        {
             Ok(version) => {
                 let entry = Entry {
                     slot,
@@ -113,7 +116,9 @@ impl<'t, P: Payload> Reader<'t, P> {
         };
         self.entries.remove(place);
         let last = !is_pinned(self.entries.as_slice(), slot);
-        let found = self.hand.unpin(self.table, self.number, place, entry, version, last);
+        let found = self
+            .hand
+            .unpin(self.table, self.number, place, entry, version, last);
         Released {
             number: (found >> 32) as u32,
             slot,

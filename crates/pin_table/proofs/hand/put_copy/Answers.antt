@@ -36,6 +36,6 @@ returns-clause-put g c = let others = c.in-Place.shelf in let copy = arc_value c
   others = others;
   is = subst (λ cell. Exchanges c.args.place cell (Place (copy ∷ others)) c.args.seat.now.me.1 c.exchange-2.new.seat.me.1) c.in-Place.is
       (subst (λ shelf. Exchanges c.args.place c.exchange.result (Place shelf) c.args.seat.now.me.1 c.exchange-2.new.seat.me.1) c.put_back.ensures
-          (exchanged_twice c.args.place c.exchange.result Empty c.exchange-2.result (Place c.put_back.result) c.args.seat.now.me.1 c.exchange.new.seat.me.1 c.exchange-2.new.seat.me.1
-              (sym (ap (times c.args.place) c.requires.listed) ∙ c.requires.once) c.exchange.ensures.exchanged c.exchange-2.ensures.exchanged));
+      (exchanged_twice c.args.place c.exchange.result Empty c.exchange-2.result (Place c.put_back.result) c.args.seat.now.me.1 c.exchange.new.seat.me.1 c.exchange-2.new.seat.me.1
+      (sym (ap (times c.args.place) c.requires.listed) ∙ c.requires.once) c.exchange.ensures.exchanged c.exchange-2.ensures.exchanged));
 }

@@ -27,5 +27,5 @@ returns-clause-taken g c = let others = c.take-copy.result.1 in record {
   others = others;
   is = subst (λ cell. Exchanges c.args.place cell (Place others) c.args.seat.now.me.1 c.exchange-2.new.seat.me.1) (c.in-Place.is ∙ ap Place c.take-copy.ensures)
       (exchanged_twice c.args.place c.exchange.result Empty c.exchange-2.result (Place others) c.args.seat.now.me.1 c.exchange.new.seat.me.1 c.exchange-2.new.seat.me.1
-          (sym (ap (times c.args.place) c.requires.listed) ∙ c.requires.once) c.exchange.ensures.exchanged c.exchange-2.ensures.exchanged);
+      (sym (ap (times c.args.place) c.requires.listed) ∙ c.requires.once) c.exchange.ensures.exchanged c.exchange-2.ensures.exchanged);
 }

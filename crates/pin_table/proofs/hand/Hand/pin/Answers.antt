@@ -103,7 +103,7 @@ take_copy-requires-clause-some g c κs within =
     let places = old.places how c.args.number c.requires.own.plan_is c.requires.reader.1 in let home = g.P.Payload.home in let source = g.P.Payload.source in
     let carries = pin_carries home source how c.args.number (omega arith) old.seat.me c.add_pin-found.result c.add_pin-found.new.seat.me slots c.requires.replay c.requires.held places c.add_pin-found.ensures.added shown in
     subst (λ at. HasCopyAt at c.add_pin-found.new.seat.me.1) (sym (c.place_of-place.ensures ∙ ap (λ n. place n c.args.number) c.requires.front.slot))
-        (has_copy home source how c.args.number (omega arith) v (added how.slots v slots c.requires.replay) slots c.requires.replay c.requires.held (added_holds how.slots v slots c.requires.replay) c.add_pin-found.new.seat.me.1 carries c.requires.may.room)
+    (has_copy home source how c.args.number (omega arith) v (added how.slots v slots c.requires.replay) slots c.requires.replay c.requires.held (added_holds how.slots v slots c.requires.replay) c.add_pin-found.new.seat.me.1 carries c.requires.may.room)
 
 pub invariant_of-self-2 : goal.invariant_of-self-2
 invariant_of-self-2 g c =
@@ -118,7 +118,7 @@ invariant_of-self-2 g c =
       places = for_reader how number c.take_copy.new.seat.me.0 (λ p r. CarriesPlaces home source p r c.take_copy.new.seat.me.0.core c.take_copy.new.seat.me.1) c.take_copy.ensures.own.plan_is
           (subst (λ w. Rattle.pin_core.specs.Core.IsReader number w.core) (sym view) c.requires.reader.1)
           (carries_after_pin home source how number (omega arith) v (added how.slots v slots c.requires.replay) slots c.requires.replay c.requires.held (added_holds how.slots v slots c.requires.replay) c.add_pin-found.new.seat.me.1 carries
-              (arc_value c.take_copy.result) c.take_copy.new.seat.me.1 taken c.take_copy.new.seat.me.0.core (ap (λ w. w.core.seen) view) (ap (λ w. w.core.entries) view));
+          (arc_value c.take_copy.result) c.take_copy.new.seat.me.1 taken c.take_copy.new.seat.me.0.core (ap (λ w. w.core.seen) view) (ap (λ w. w.core.entries) view));
     }
 
 pub returns-clause-pinned : goal.returns-clause-pinned

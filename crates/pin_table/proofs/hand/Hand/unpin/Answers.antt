@@ -43,7 +43,7 @@ take_pin-found-requires-clause-home g c κs within _ last =
     let places = old.places how number c.requires.own.plan_is c.requires.reader.1 in
     let put = subst (λ at. CopyPut at (arc_value c.args.copy) old.seat.me.1 c.put_copy.new.seat.me.1) c.place_of-place.ensures c.put_copy.ensures.put in
     subst (λ w. MayGivePlace home source how w.core.seen (entry_number how.slots w.core.seen c.args.entry) (place c.args.entry.slot number) c.put_copy.new.seat.me.1) (sym c.put_copy.ensures.same)
-        (may_give home source how number (omega arith) v c.args.entry c.args.at some c.requires.replay c.requires.held c.requires.there old.seat.me.1 places (arc_value c.args.copy) c.requires.copy c.put_copy.new.seat.me.1 put (sym (ap (λ w. held_at c.args.entry.slot w.core) c.put_copy.ensures.same) ∙ last))
+    (may_give home source how number (omega arith) v c.args.entry c.args.at some c.requires.replay c.requires.held c.requires.there old.seat.me.1 places (arc_value c.args.copy) c.requires.copy c.put_copy.new.seat.me.1 put (sym (ap (λ w. held_at c.args.entry.slot w.core) c.put_copy.ensures.same) ∙ last))
 
 pub invariant_of-self : goal.invariant_of-self
 invariant_of-self g c =
@@ -59,7 +59,7 @@ invariant_of-self g c =
       places = for_reader how number c.take_pin-found.new.seat.me.0 (λ p r. CarriesPlaces home source p r c.take_pin-found.new.seat.me.0.core c.take_pin-found.new.seat.me.1) c.take_pin-found.ensures.own.plan_is
           (subst (λ w. IsReader number w.core) (sym view) c.requires.reader.1)
           (subst (CarriesPlaces home source how number c.take_pin-found.new.seat.me.0.core) (sym carried)
-              (carries_after_last home source how number (omega arith) v c.args.entry c.args.at some c.requires.replay c.requires.held c.requires.there old.seat.me.1 places (arc_value c.args.copy) c.requires.copy c.put_copy.new.seat.me.1 put c.take_pin-found.new.seat.me.0.core (ap (λ w. w.core.seen) view) (ap (λ w. w.core.entries) view) last));
+          (carries_after_last home source how number (omega arith) v c.args.entry c.args.at some c.requires.replay c.requires.held c.requires.there old.seat.me.1 places (arc_value c.args.copy) c.requires.copy c.put_copy.new.seat.me.1 put c.take_pin-found.new.seat.me.0.core (ap (λ w. w.core.seen) view) (ap (λ w. w.core.entries) view) last));
     }
 
 pub invariant_of-self-else-is_last : goal.invariant_of-self-else-is_last
@@ -75,7 +75,7 @@ invariant_of-self-else-is_last g c =
       places = for_reader how number c.take_pin-found.new.seat.me.0 (λ p r. CarriesPlaces home source p r c.take_pin-found.new.seat.me.0.core c.take_pin-found.new.seat.me.1) c.take_pin-found.ensures.own.plan_is
           (subst (λ w. IsReader number w.core) (sym view) c.requires.reader.1)
           (subst (CarriesPlaces home source how number c.take_pin-found.new.seat.me.0.core) (sym stays)
-              (carries_after_one home source how number (omega arith) v c.args.entry c.args.at some c.requires.replay c.requires.held c.requires.there old.seat.me.1 places (arc_value c.args.copy) c.requires.copy c.put_copy.new.seat.me.1 put c.take_pin-found.new.seat.me.0.core (ap (λ w. w.core.seen) view) (ap (λ w. w.core.entries) view) several));
+          (carries_after_one home source how number (omega arith) v c.args.entry c.args.at some c.requires.replay c.requires.held c.requires.there old.seat.me.1 places (arc_value c.args.copy) c.requires.copy c.put_copy.new.seat.me.1 put c.take_pin-found.new.seat.me.0.core (ap (λ w. w.core.seen) view) (ap (λ w. w.core.entries) view) several));
     }
 
 pub returns-then-is_last-clause-shown : goal.returns-then-is_last-clause-shown

@@ -28,7 +28,7 @@ pub unreachable-requires : goal.unreachable-requires
 unreachable-requires g c =
     let old = c.args.self.now in let now = c.look-front.new.self in let v = now.hand.seat.me.0.core in let slot = c.handle.inside.slot in let w = c.handle.inside.position in
     not_missing v.entries slot w (subst (λ h. Contains v.entries (entry_of h)) (sym c.handle.view_is) (subst (λ es. Contains es (entry_of c.args.handle)) (sym (ap (λ (x : View). x.entries) c.look-front.ensures.view)) c.requires.made.pinned))
-        (ap (position (stands_at slot w)) (sym (c.as_slice.ensures.value ∙ now.pins)) ∙ sym c.place_among.ensures ∙ c.in_default.is)
+    (ap (position (stands_at slot w)) (sym (c.as_slice.ensures.value ∙ now.pins)) ∙ sym c.place_among.ensures ∙ c.in_default.is)
 
 pub returns : goal.returns
 returns g c =
