@@ -1,14 +1,30 @@
 //! The list of versions that threads share: versions in a fixed number of slots, over atomic words.
 //!
-//! A `PinTable` keeps versions of any payload, not only time zones. Each thread works on it through a `Reader` of its own,
-//! which the `Main` sends out and takes in again. `look` loads the front word and waits for nobody. A table is closed once
-//! no reader is out, and gives its book.
+//! A `PinTable` keeps versions of any payload, not only time zones. The thread that makes it gets its `Main`, which sends
+//! a `Reader` out to each thread and takes it in again. A reader pins the front (`front`), reads the version through the
+//! handle, and releases it. It pushes and erases versions, one writer at a time. A slot is used again only when no handle
+//! holds it, whatever the threads do in between.
+//!
+//! - **Which calls wait.** `look`, `front` and `release` wait for nobody. `front` tries again where a push came between,
+//!   and each such try shows it a later position, so there are no more than writes. `try_push`, `try_erase_after` and
+//!   `try_list` answer `Busy` where another reader has the turn. `push`, `erase_after` and `list` try again until they get
+//!   it, and take a runtime that may wait. No call takes a lock.
+//! - **Memory.** `PinTable::new` takes what the table needs, and `copies` what a push needs, before the push takes the
+//!   turn. No other call takes memory, so none is refused for want of it.
+//! - **A position** is a number of writes. What a reader is told never goes back to an earlier one. A handle's version was
+//!   the front at the handle's position, and its slot keeps it until the release.
+//! - **`Busy`** names the reader that has the turn. It is in the middle of a push, an erase or a listing.
+//! - **`Full`**: each slot keeps a version that is listed or that somebody holds. An erase and a release make room.
+//! - **A reader that is dropped** isn't taken in: its number, its writes and its pins stay with it, and the table can't be
+//!   closed. `join` takes a reader in that has released its handles.
+//! - **A handle** can't be dropped: `release` alone spends it. What is read of its version borrows from the handle, so a
+//!   release while that is in use doesn't compile.
 //!
 //! The rule of the table (`specs/Rule`) is that its words, its seats and what stands at home are at each moment those of a
 //! state that the steps of `pin_core` reach, so all that `pin_core` says of such states holds of the table, over every
 //! interleaving. `steps` has the atomic steps of all seven kinds, each of which keeps the rule and tells its seat what
-//! `pin_core`'s step of that kind makes of it. `exchange` is the one place where a slot of the base is exchanged. No call
-//! takes a lock. Public calls that pin, release, push, erase and list stand on these steps, and aren't here yet.
+//! `pin_core`'s step of that kind makes of it. `exchange` is the one place where a slot of the base is exchanged. The
+//! calls are made of these and of nothing else that threads share.
 //!
 //! ```rust
 //! // a list of 4 slots, for 2 readers, with room for 8 writes
@@ -16,8 +32,13 @@
 //! // a reader that may make 3 of them
 //! let mut reader = main.split(&table, 3)?;
 //! // the front after no write is version 1, in slot 0
-//! let front = reader.look();
-//! assert_eq!(rt; (front.w, front.n, front.slot), (0, 1, 0));
+//! let handle = reader.front()?;
+//! assert_eq!(rt; (handle.number(), handle.position()), (1, 0));
+//! // a second version is the next front; the handle keeps the first
+//! let copies = table.copies(alloc, second)?;
+//! let pushed = reader.push(rt, copies)?;
+//! assert_eq!(rt; (pushed.w, pushed.n), (1, 2));
+//! reader.release(handle);
 //! main.join(reader);
 //! let book = table.close(main);
 //! ```
