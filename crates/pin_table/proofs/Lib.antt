@@ -21,6 +21,8 @@ pub mod HandLemmas
 pub mod WriteLemmas
 pub mod EraseLemmas
 pub mod SlotLemmas
+pub mod RefillLemmas
+pub mod PushLemmas
 pub mod HandleMoves
 pub mod HandPins
 pub mod HandReleases

@@ -29,7 +29,7 @@ at_source [] i = refl
 at_source (e ∷ es) zero = refl
 at_source (e ∷ es) (suc i) = at_source es i
 
-source_at : (journal : List Write) (number : ℕ) → source_of journal number ≡ get_or (sources journal) (number - 1) 0
+pub source_at : (journal : List Write) (number : ℕ) → source_of journal number ≡ get_or (sources journal) (number - 1) 0
 unfolding source_of
 source_at journal number = at_source (editions journal) (number - 1)
 
