@@ -1,6 +1,6 @@
 -- What stays of a reader's handles over an erase.
-use Rattle.std.proofs.Common.{◌≡◌, ℕ, List, ◌∷◌, [], ◌++◌, length, take, refl, sym, ap, ◌∙◌}
-use Rattle.std.specs.Prelude.{Result, Ok, Err, Contains}
+use Rattle.std.proofs.Common.{◌≡◌, ℕ, length, take, ap, ◌∙◌}
+use Rattle.std.specs.Prelude.{Result, Ok, Err}
 use Rattle.std.proofs.Math.Seq.{take-length}
 use Rattle.std.proofs.lemmas.List.{take-append-le}
 use Rattle.pin_core.specs.declared.view.View.{View}
@@ -9,7 +9,7 @@ use Rattle.pin_table.specs.declared.answers.EraseWhy.{EraseWhy}
 use Rattle.pin_table.specs.declared.answers.EraseWhy.TheVariants as erase
 use Rattle.pin_table.specs.declared.sitting.Plan.{Plan}
 use Rattle.pin_table.specs.Turns.{TriesErase}
-use Rattle.pin_table.proofs.PlaceLemmas.{take_seen, no_shorter}
+use Rattle.pin_table.proofs.PlaceLemmas.{no_shorter}
 
 -- the pins, the role and the numbers stay, and what is seen goes on
 pub record KeepsPins (v v' : View) : Type 0 where

@@ -1,4 +1,3 @@
-use Rattle.std.proofs.Common.{◌≡◌}
 use Rattle.pin_table.specs.Reader.{reader_view}
 use Rattle.pin_table.specs.Table.{plan}
 use Rattle.example_table.proofs.Turns.{erase_keeps}
