@@ -71,8 +71,6 @@ mod sitting;
 mod slot_claims;
 mod steps;
 mod table;
-#[cfg(test)]
-mod tests;
 mod turns;
 
 pub use answers::{
