@@ -35,7 +35,7 @@ use Rattle.pin_table.specs.Layout.{slot_word}
 use Rattle.pin_table.specs.Seat.{knowing}
 use Rattle.pin_table.specs.Runs.{takes_run}
 use Rattle.pin_table.specs.Places.{IsPlaceAt, StandsAtHome}
-use Rattle.pin_table.specs.Rule.{Kept}
+use Rattle.pin_table.specs.Rule.{KeepsList}
 use Rattle.pin_table.specs.Plays.{ForReader, MayClaimSlot, SlotTried, unpinned_word, claimed_word}
 use Rattle.pin_table.proofs.RunLemmas.{carried_taken, taken_else, taken_length, taken_valid, gathered}
 use Rattle.pin_table.proofs.StepLemmas.{same_words, slot_written, Known, known, after_step, Steps, lives, set_at, for_step}
@@ -80,7 +80,7 @@ only_pins s id number slot v h has one some_pin = let seat = total_some (pins_at
         let both = terms_le (has_number number) s.views id other v u apart has.here at in let all = h.owners.numbers number mine in
         let first = has_own number v has.reader.1 in let second = has_own number u (theirs.1 ∙ ap (λ n. n ∷ []) same) in omega arith
 
-module _ {P H : Type 0} (home : P → H) (source : P → ℕ) (name_of : H → ℕ → List ℕ) (plan : Plan P) (s : State (Cell P H) (Sitting P)) (h : Kept home source name_of plan s)
+module _ {P H : Type 0} (home : P → H) (source : P → ℕ) (name_of : H → ℕ → List ℕ) (plan : Plan P) (s : State (Cell P H) (Sitting P)) (h : KeepsList home source name_of plan s)
     (id number : ℕ) (m : Me (Cell P H) (Sitting P)) (seated : get_elem? s.views id ≡ some m.0) (reader : IsReader number m.0.core) (slot : ℕ) (may : MayClaimSlot plan.slots slot m.0.core) where
   abbrev core : CoreState
   core = h.core
@@ -161,8 +161,8 @@ module _ {P H : Type 0} (home : P → H) (source : P → ℕ) (name_of : H → �
       book = λ free. taken_else s.homes m.1 (place slot 0) cells (book_place plan.slots) (inr (let few = few_cells in let low = may.inside in omega arith)) ∙ h.homes.book free;
     }
 
-    claimed_rule : Kept home source name_of plan record { words = set s.words (slot_word slot) (either (word == old) new word); homes = homes'; views = set s.views id w }
-    claimed_rule = subst (λ n. Kept home source name_of plan record { words = set s.words (slot_word slot) n; homes = homes'; views = set s.views id w }) (sym (ap (λ b. either b new word) (eq-eqb word old won)))
+    claimed_rule : KeepsList home source name_of plan record { words = set s.words (slot_word slot) (either (word == old) new word); homes = homes'; views = set s.views id w }
+    claimed_rule = subst (λ n. KeepsList home source name_of plan record { words = set s.words (slot_word slot) n; homes = homes'; views = set s.views id w }) (sym (ap (λ b. either b new word) (eq-eqb word old won)))
         (after_step home source name_of plan s h id w t (set s.words (slot_word slot) new) homes' (subst (Moves core) move_is (claims_slot id number v slot k.has allowed_claim)) refl
         (slot_written s.words core t slot new record { number = front_number core.slots core.journal + 1; count = 0 } h.words inside k.lawful.follows.wide new_is refl refl refl refl) claimed)
 
@@ -191,8 +191,8 @@ module _ {P H : Type 0} (home : P → H) (source : P → ℕ) (name_of : H → �
     abbrev w' : Sitting P
     w' = knowing (found_pinned slot v) m.0
 
-    missed_rule : Kept home source name_of plan record { words = set s.words (slot_word slot) (either (word == old) new word); homes = s.homes; views = set s.views id w' }
-    missed_rule = subst (λ ws. Kept home source name_of plan record { words = ws; homes = s.homes; views = set s.views id w' })
+    missed_rule : KeepsList home source name_of plan record { words = set s.words (slot_word slot) (either (word == old) new word); homes = s.homes; views = set s.views id w' }
+    missed_rule = subst (λ ws. KeepsList home source name_of plan record { words = ws; homes = s.homes; views = set s.views id w' })
         (sym (ap (λ b. set s.words (slot_word slot) (either b new word)) (ne_eqb word old lost) ∙ set-get_or s.words (slot_word slot) 0))
         (after_step home source name_of plan s h id w' (miss_slot core id v slot) s.words s.homes (subst (Moves core) move_else (claims_slot id number v slot k.has allowed_claim)) refl
         (same_words s.words core (miss_slot core id v slot) h.words refl refl refl refl) record {
@@ -201,7 +201,7 @@ module _ {P H : Type 0} (home : P → H) (source : P → ℕ) (name_of : H → �
           book = h.homes.book;
         })
 
-  pub claims_at : Steps (Kept home source name_of plan) s id m (slot_word slot) (λ n. either (n == old) new n) (λ n m'. SlotTried plan slot m n m')
+  pub claims_at : Steps (KeepsList home source name_of plan) s id m (slot_word slot) (λ n. either (n == old) new n) (λ n m'. SlotTried plan slot m n m')
   claims_at = ⊎_elim
       (λ (won : word ≡ old). (
         w won,
@@ -223,8 +223,8 @@ module _ {P H : Type 0} (home : P → H) (source : P → ℕ) (name_of : H → �
 
 module _ {P H : Type 0} (home : P → H) (source : P → ℕ) (name_of : H → ℕ → List ℕ) where
   pub claims : (plan : Plan P) (slots id number slot : ℕ) (m : Me (Cell P H) (Sitting P)) → m.0.plan ≡ Some plan → IsReader number m.0.core → MayClaimSlot plan.slots slot m.0.core
-      → Allows (Kept home source name_of plan) slots id m (slot_word slot) (λ n. either (n == unpinned_word plan.slots m.0.core.seen slot) (claimed_word plan.slots m.0.core.seen) n)
+      → Allows (KeepsList home source name_of plan) slots id m (slot_word slot) (λ n. either (n == unpinned_word plan.slots m.0.core.seen slot) (claimed_word plan.slots m.0.core.seen) n)
       (λ n m'. ForReader m.0 (λ p r. SlotTried p slot m n m'))
   claims plan slots id number slot m of_plan reader may s h deep at fits =
-      for_step (Kept home source name_of plan) s id (slot_word slot) m (λ n. either (n == unpinned_word plan.slots m.0.core.seen slot) (claimed_word plan.slots m.0.core.seen) n)
+      for_step (KeepsList home source name_of plan) s id (slot_word slot) m (λ n. either (n == unpinned_word plan.slots m.0.core.seen slot) (claimed_word plan.slots m.0.core.seen) n)
       (λ p r n m'. SlotTried p slot m n m') plan plan number of_plan reader refl (claims_at home source name_of plan s h id number m at reader slot may)

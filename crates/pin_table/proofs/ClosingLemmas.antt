@@ -19,7 +19,7 @@ use Rattle.pin_table.specs.declared.cell.Cell.TheVariants.{Desk}
 use Rattle.pin_table.specs.declared.sitting.Plan.{Plan}
 use Rattle.pin_table.specs.declared.sitting.Sitting.{Sitting}
 use Rattle.pin_table.specs.Sources.{book_of}
-use Rattle.pin_table.specs.Rule.{Kept}
+use Rattle.pin_table.specs.Rule.{KeepsList}
 use Rattle.pin_table.specs.Closing.{IsWhole}
 use Rattle.pin_table.proofs.KeptLemmas.{kept_sizes, kept_lawful, kept_view}
 
@@ -50,7 +50,7 @@ module _ {P H : Type 0} (home : P → H) (source : P → ℕ) (name_of : H → �
     pub whole : IsWhole plan.readers main journal
 
   pub closes : (id : ℕ) (v : Sitting P) (words : List ℕ) (cells : List (Cell P H)) (cell : Cell P H) → v.core.role ≡ roles.Main → length v.core.numbers ≡ plan.readers
-      → Final (Seen (Kept home source name_of plan) id v) words cells → get_elem? cells (book_place plan.slots) ≡ maybe.some cell → ClosesWith v.core cell
+      → Final (Seen (KeepsList home source name_of plan) id v) words cells → get_elem? cells (book_place plan.slots) ≡ maybe.some cell → ClosesWith v.core cell
   closes id v words cells cell main all final there =
       let s = final.0 in let h = final.1.0 in let lawful = kept_lawful home source name_of plan s h in let readers = (kept_sizes home source name_of plan s h).1 in
       let here = kept_view home source name_of plan s h id v final.1.1 in let all' : length v.core.numbers ≡ h.core.readers = all ∙ sym readers in

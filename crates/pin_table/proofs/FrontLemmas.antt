@@ -14,7 +14,7 @@ use Rattle.pin_core.specs.Core.{total, one_if}
 use Rattle.pin_core.specs.Step.{MayPin}
 use Rattle.pin_table.specs.declared.position.Position.{Position}
 use Rattle.pin_table.specs.declared.reader.Reader.{Reader}
-use Rattle.pin_table.specs.Handles.{Handle, HoldsFront, AreAllHeld, entry_of}
+use Rattle.pin_table.specs.Handles.{Handle, HoldsFront, AreAllHeld, pin_of}
 use Rattle.pin_table.specs.Pins.{PinsFront, PinsAtOnce, Misses, with_handle}
 use Rattle.pin_table.specs.Reader.{reader_view, seen, SeesMore, Looks}
 use Rattle.pin_table.specs.Table.{plan}
@@ -101,15 +101,15 @@ module _ {P H : Type 0} {meanings : Ghosts P H} where
             table = p.table ∙ h.table ∙ l.more.table;
           };
           few = (let few = h.few in let same = ap (λ (s : List Write). length s) now in omega arith);
-          view = p.view ∙ ap (λ (v : View). record v { entries = v.entries ++ entry_of handle ∷ []; pins = v.pins + 1 }) (h.view ∙ ap (λ (v : View). record v { seen = seen reader; loads = v.loads + h.misses; pins = v.pins + h.misses }) l.view)
+          view = p.view ∙ ap (λ (v : View). record v { entries = v.entries ++ pin_of handle ∷ []; pins = v.pins + 1 }) (h.view ∙ ap (λ (v : View). record v { seen = seen reader; loads = v.loads + h.misses; pins = v.pins + h.misses }) l.view)
               ∙ one_handle (seen reader) ((reader_view old).loads + 1 + h.misses) (sym now) (omega arith);
           position = p.position ∙ sym (ap (λ (s : List Write). length s) now);
           made = p.made;
         }
       where
         one_handle : (s : List Write) (a : ℕ) → s ≡ seen reader' → a ≡ (reader_view old).loads + h.misses + 1
-            → record (reader_view old) { seen = s; entries = (reader_view old).entries ++ entry_of handle ∷ []; loads = a; pins = (reader_view old).pins + h.misses + 1 } ≡ with_handle (seen reader') h.misses handle (reader_view old)
-        one_handle s a same more = λ i. record (reader_view old) { seen = same i; entries = (reader_view old).entries ++ entry_of handle ∷ []; loads = more i; pins = (reader_view old).pins + h.misses + 1 }
+            → record (reader_view old) { seen = s; entries = (reader_view old).entries ++ pin_of handle ∷ []; loads = a; pins = (reader_view old).pins + h.misses + 1 } ≡ with_handle (seen reader') h.misses handle (reader_view old)
+        one_handle s a same more = λ i. record (reader_view old) { seen = same i; entries = (reader_view old).entries ++ pin_of handle ∷ []; loads = more i; pins = (reader_view old).pins + h.misses + 1 }
 
 -- ---- a handle's pin among the reader's ----
 

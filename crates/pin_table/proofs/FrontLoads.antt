@@ -23,7 +23,7 @@ use Rattle.pin_table.specs.declared.sitting.Sitting.{Sitting}
 use Rattle.pin_table.specs.declared.layout.TheConstants.{FRONT_WORD}
 use Rattle.pin_table.specs.Seat.{knowing, HasSizes}
 use Rattle.pin_table.specs.Places.{IsPlaceAt}
-use Rattle.pin_table.specs.Rule.{Kept}
+use Rattle.pin_table.specs.Rule.{KeepsList}
 use Rattle.pin_table.specs.Plays.{ForReader, GoesOn, FrontLoaded}
 use Rattle.pin_table.proofs.OldStrays.{strays_old}
 use Rattle.pin_table.proofs.StepLemmas.{same_words, Known, known, after_step, lives, plan_here, same_plan, for_reader}
@@ -44,7 +44,7 @@ goes_on plan s id number v sizes run k =
     }
 
 module _ {P H : Type 0} (home : P → H) (source : P → ℕ) (name_of : H → ℕ → List ℕ) where
-  shows : (plan : Plan P) (s : State (Cell P H) (Sitting P)) (h : Kept home source name_of plan s) (id number : ℕ) (m : Me (Cell P H) (Sitting P)) (k : Known plan h.core id number m.0.core)
+  shows : (plan : Plan P) (s : State (Cell P H) (Sitting P)) (h : KeepsList home source name_of plan s) (id number : ℕ) (m : Me (Cell P H) (Sitting P)) (k : Known plan h.core id number m.0.core)
       → FrontLoaded (plan_here plan h.core) number m (slice_index s.words FRONT_WORD) (knowing (loaded h.core.journal m.0.core) m.0, m.1)
   shows plan s h id number m k =
       let core : CoreState = h.core in let few = h.sizes in let small = front_small core k.lawful in let front = k.lawful.follows.front in
@@ -61,13 +61,13 @@ module _ {P H : Type 0} (home : P → H) (source : P → ℕ) (name_of : H → �
       }
 
   pub loads_front : (plan : Plan P) (slots id number : ℕ) (m : Me (Cell P H) (Sitting P)) → m.0.plan ≡ Some plan → IsReader number m.0.core
-      → Allows (Kept home source name_of plan) slots id m FRONT_WORD (λ n. n) (λ n m'. ForReader m.0 (λ p r. FrontLoaded p r m n m'))
+      → Allows (KeepsList home source name_of plan) slots id m FRONT_WORD (λ n. n) (λ n m'. ForReader m.0 (λ p r. FrontLoaded p r m n m'))
   loads_front plan slots id number m of_plan reader s h deep at fits =
       let k = known home source name_of plan s h id number m.0 at reader in let core : CoreState = h.core in let v : View = m.0.core in let w : Sitting P = knowing (loaded core.journal v) m.0 in (
         w,
         keeps,
         tt,
-        subst (λ (ws : List ℕ). Kept home source name_of plan record { words = ws; homes = s.homes; views = set s.views id w }) (sym (set-get_or s.words FRONT_WORD 0))
+        subst (λ (ws : List ℕ). KeepsList home source name_of plan record { words = ws; homes = s.homes; views = set s.views id w }) (sym (set-get_or s.words FRONT_WORD 0))
             (after_step home source name_of plan s h id w (load_front core id v) s.words s.homes (loads id number v k.has) refl (same_words s.words core (load_front core id v) h.words refl refl refl refl) record {
               deep = h.homes.deep;
               places = load_home (λ slot reader n. IsPlaceAt home source s.homes (home plan.first) core.journal (place slot reader) n) core id number v k.has h.homes.places;

@@ -17,13 +17,13 @@ use Rattle.pin_core.proofs.Sums.{term_le}
 use Rattle.pin_table.specs.declared.cell.Cell.{Cell}
 use Rattle.pin_table.specs.declared.sitting.Plan.{Plan}
 use Rattle.pin_table.specs.declared.sitting.Sitting.{Sitting}
-use Rattle.pin_table.specs.Seat.{core_of}
-use Rattle.pin_table.specs.Rule.{Kept}
+use Rattle.pin_table.specs.Seat.{view_of}
+use Rattle.pin_table.specs.Rule.{KeepsList}
 use Rattle.pin_table.proofs.OldStrays.{sizes_stay}
 
 -- ---- a state that meets the rule ----
 
-module _ {P H : Type 0} (home : P → H) (source : P → ℕ) (name_of : H → ℕ → List ℕ) (plan : Plan P) (s : State (Cell P H) (Sitting P)) (h : Kept home source name_of plan s) where
+module _ {P H : Type 0} (home : P → H) (source : P → ℕ) (name_of : H → ℕ → List ℕ) (plan : Plan P) (s : State (Cell P H) (Sitting P)) (h : KeepsList home source name_of plan s) where
   pub kept_sizes : (h.core.slots ≡ plan.slots) × (h.core.readers ≡ plan.readers) × (h.core.room ≡ plan.room)
   kept_sizes = sizes_stay (opening_state plan.slots plan.readers plan.room) h.core h.reached
 
@@ -31,7 +31,7 @@ module _ {P H : Type 0} (home : P → H) (source : P → ℕ) (name_of : H → �
   kept_lawful = let some_slots = h.sizes.some_slots in reached plan.slots plan.readers plan.room h.core (omega arith) h.reached
 
   pub kept_view : (id : ℕ) (v : Sitting P) → get_elem? s.views id ≡ some v → get_elem? h.core.views id ≡ some v.core
-  kept_view id v at = subst (λ (l : List View). get_elem? l id ≡ some v.core) (sym h.views) (at_map core_of s.views id v at)
+  kept_view id v at = subst (λ (l : List View). get_elem? l id ≡ some v.core) (sym h.views) (at_map view_of s.views id v at)
 
 -- ---- reader numbers ----
 

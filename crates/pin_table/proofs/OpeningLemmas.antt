@@ -23,8 +23,8 @@ use Rattle.pin_table.specs.Layout.{slot_word, word_count}
 use Rattle.pin_table.specs.Seat.{first_sitting, HasSizes}
 use Rattle.pin_table.specs.Shelf.{AreOf, full_shelf}
 use Rattle.pin_table.specs.Sources.{source_of, book_of}
-use Rattle.pin_table.specs.Places.{IsStocked, StandsAtHome}
-use Rattle.pin_table.specs.Rule.{Shows, Kept}
+use Rattle.pin_table.specs.Places.{IsStockedPlace, StandsAtHome}
+use Rattle.pin_table.specs.Rule.{Shows, KeepsList}
 use Rattle.pin_table.specs.Opening.{opening_words, opening_cells}
 
 -- ---- the words ----
@@ -128,7 +128,7 @@ module _ {P H : Type 0} (home : P → H) (source : P → ℕ) (name_of : H → �
             (λ (zero_slot : slot ≡ 0). let at : get_elem? (map maybe.some cells) (place slot reader) ≡ maybe.some (maybe.some x) =
             ap (λ (l : List (maybe.Option (Cell P H))). get_elem? l (place slot reader)) all ∙ (ap (λ (l : List (Cell P H)). get_elem? (map maybe.some l) (place slot reader)) (append_assoc shelves blanks (Desk book ∷ []))
             ∙ (let same : place slot reader ≡ reader = omega arith in ap (get_elem? (map maybe.some (shelves ++ (blanks ++ Desk book ∷ [])))) same ∙ at_replicate plan.readers reader x (blanks ++ Desk book ∷ []) inside))
-            in record { cell = x; here = at; stocked = λ _. let one = shown slot zero_slot low in subst (λ n. IsStocked home source (home plan.first) (source_of [] n) x) (sym one) record { shelf = full_shelf plan.first; is = refl; full = refl; alike = all_same home source 8 plan.first (source_of [] 1) (first ∙ sym first_source) } })
+            in record { cell = x; here = at; stocked = λ _. let one = shown slot zero_slot low in subst (λ n. IsStockedPlace home source (home plan.first) (source_of [] n) x) (sym one) record { shelf = full_shelf plan.first; is = refl; full = refl; alike = all_same home source 8 plan.first (source_of [] 1) (first ∙ sym first_source) } })
             (λ (no : slot ≢ 0). record { cell = there.0; here = there.1; stocked = λ some_number. let none = hidden slot no low in absurd (omega arith) })
             (cases_eq slot 0);
         book = λ nobody. ap (λ (l : List (maybe.Option (Cell P H))). get_elem? l (16 * plan.slots)) all ∙ last;
@@ -138,7 +138,7 @@ module _ {P H : Type 0} (home : P → H) (source : P → ℕ) (name_of : H → �
       at_end l a n long = ap (λ (m : List (maybe.Option (Cell P H))). get_elem? m n) (map-append maybe.some l (a ∷ [])) ∙ at_last (map maybe.some l) (maybe.some a) n (length-map l maybe.some ∙ long)
 
   pub opens_kept : (plan : Plan P) → HasSizes plan → source plan.first ≡ 0 → (cells : List (Cell P H)) → cells ≡ opening_cells plan.slots plan.readers plan.first (book_of name_of (home plan.first) plan.slots plan.room [])
-      → Kept home source name_of plan (opening (opening_words plan.slots) cells (first_sitting plan))
+      → KeepsList home source name_of plan (opening (opening_words plan.slots) cells (first_sitting plan))
   opens_kept plan sizes first cells is = let some = sizes.some_slots in record {
     core = opening_state plan.slots plan.readers plan.room;
     sizes = sizes;
@@ -151,9 +151,9 @@ module _ {P H : Type 0} (home : P → H) (source : P → ℕ) (name_of : H → �
   -- the same, by what the parts of a new table are made of
   pub opens_as : (plan : Plan P) → HasSizes plan → (first other : P) → plan.first ≡ first → other ≡ first → source first ≡ 0 → (book : Chronicle) (name : List ℕ) → name ≡ name_of (home other) (source other)
       → book ≡ record { slots = plan.slots; room = plan.room; journal = []; names = name ∷ [] } → (words : List ℕ) → words ≡ opening_words plan.slots
-      → (cells : List (Cell P H)) → cells ≡ opening_cells plan.slots plan.readers first book → Kept home source name_of plan (opening words cells (first_sitting plan))
+      → (cells : List (Cell P H)) → cells ≡ opening_cells plan.slots plan.readers first book → KeepsList home source name_of plan (opening words cells (first_sitting plan))
   opens_as plan sizes first other mine theirs from book name called is words shown cells there =
       let named : name ≡ name_of (home plan.first) 0 = called ∙ (λ i. name_of (home ((theirs ∙ sym mine) i)) ((ap source theirs ∙ from) i)) in
       let is_book : book ≡ book_of name_of (home plan.first) plan.slots plan.room [] = is ∙ ap (λ (n : List ℕ). record { slots = plan.slots; room = plan.room; journal = []; names = n ∷ [] }) named in
       let lies : cells ≡ opening_cells plan.slots plan.readers plan.first (book_of name_of (home plan.first) plan.slots plan.room []) = there ∙ (λ i. opening_cells plan.slots plan.readers (sym mine i) (is_book i)) in
-      subst (λ (w : List ℕ). Kept home source name_of plan (opening w cells (first_sitting plan))) (sym shown) (opens_kept plan sizes (ap source mine ∙ from) cells lies)
+      subst (λ (w : List ℕ). KeepsList home source name_of plan (opening w cells (first_sitting plan))) (sym shown) (opens_kept plan sizes (ap source mine ∙ from) cells lies)

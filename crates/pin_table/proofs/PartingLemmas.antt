@@ -22,15 +22,15 @@ use Rattle.pin_core.proofs.AtHome.{split_home, join_home}
 use Rattle.pin_table.specs.declared.cell.Cell.{Cell}
 use Rattle.pin_table.specs.declared.sitting.Plan.{Plan}
 use Rattle.pin_table.specs.declared.sitting.Sitting.{Sitting}
-use Rattle.pin_table.specs.Seat.{core_of, spent_sitting}
+use Rattle.pin_table.specs.Seat.{view_of, spent_sitting}
 use Rattle.pin_table.specs.Places.{IsPlaceAt}
-use Rattle.pin_table.specs.Rule.{Kept}
+use Rattle.pin_table.specs.Rule.{KeepsList}
 use Rattle.pin_table.specs.Parting.{readers_of_plan, left_sitting, right_sitting, joined_sitting}
 use Rattle.pin_table.proofs.KeptLemmas.{kept_sizes, kept_lawful, kept_view, has_once}
 
 module _ {P H : Type 0} (home : P → H) (source : P → ℕ) (name_of : H → ℕ → List ℕ) (plan : Plan P) where
   pub splits_kept : (id number writes : ℕ) (v : Sitting P) → v.plan ≡ Some plan → v.core.role ≡ roles.Main → 0 < has_number number v.core → writes ≤ v.core.allowance
-      → Splits (Kept home source name_of plan) id v (left_sitting number writes v) (right_sitting number writes v)
+      → Splits (KeepsList home source name_of plan) id v (left_sitting number writes v) (right_sitting number writes v)
   splits_kept id number writes v planned main mine room s h at =
       let lawful = kept_lawful home source name_of plan s h in let sizes = kept_sizes home source name_of plan s h in
       let at' : get_elem? h.core.views id ≡ some v.core = kept_view home source name_of plan s h id v at in
@@ -38,9 +38,9 @@ module _ {P H : Type 0} (home : P → H) (source : P → ℕ) (name_of : H → �
       let once = (has_once h.core id number v.core lawful at' live mine).1 in
       let may : MaySplit number writes v.core = record { main = main; mine = once; room = room } in
       let readers : h.core.readers ≡ readers_of_plan v.plan = sizes.1 ∙ sym (ap readers_of_plan planned) in
-      let views : (split h.core id v.core number writes).views ≡ map core_of (set s.views id (left_sitting number writes v) ++ right_sitting number writes v ∷ []) =
+      let views : (split h.core id v.core number writes).views ≡ map view_of (set s.views id (left_sitting number writes v) ++ right_sitting number writes v ∷ []) =
       (λ i. set (h.views i) id (left_over (readers i) number writes v.core) ++ split_off (readers i) number writes v.core ∷ [])
-      ∙ sym (map-append core_of (set s.views id (left_sitting number writes v)) (right_sitting number writes v ∷ []) ∙ ap (λ (l : List View). l ++ core_of (right_sitting number writes v) ∷ []) (map-set core_of s.views id (left_sitting number writes v))) in
+      ∙ sym (map-append view_of (set s.views id (left_sitting number writes v)) (right_sitting number writes v ∷ []) ∙ ap (λ (l : List View). l ++ view_of (right_sitting number writes v) ∷ []) (map-set view_of s.views id (left_sitting number writes v))) in
       record {
         core = split h.core id v.core number writes;
         sizes = h.sizes;
@@ -58,7 +58,7 @@ module _ {P H : Type 0} (home : P → H) (source : P → ℕ) (name_of : H → �
       main_lives u main spent = absurd (cc)
 
   pub joins_kept : (id other : ℕ) (v w : Sitting P) → v.plan ≡ Some plan → v.core.role ≡ roles.Main → w.core.role ≡ roles.Reader → w.core.entries ≡ [] → w.core.turn ≡ false
-      → Joins (Kept home source name_of plan) id v other w (joined_sitting v w) spent_sitting
+      → Joins (KeepsList home source name_of plan) id v other w (joined_sitting v w) spent_sitting
   joins_kept id other v w planned main reader unpinned idle s h at apart there =
       let lawful = kept_lawful home source name_of plan s h in
       let both : Sitting P = joined_sitting v w in
@@ -66,9 +66,9 @@ module _ {P H : Type 0} (home : P → H) (source : P → ℕ) (name_of : H → �
       let mine : get_elem? h.core.views id ≡ some v.core = kept_view home source name_of plan s h id v at in
       let its : get_elem? h.core.views other ≡ some w.core = kept_view home source name_of plan s h other w there' in
       let may : MayJoin v.core w.core = record { main = main; reader = reader; unpinned = unpinned; turn = idle } in
-      let views : (join h.core id v.core other w.core).views ≡ map core_of (set (set s.views id both) other spent_sitting) =
+      let views : (join h.core id v.core other w.core).views ≡ map view_of (set (set s.views id both) other spent_sitting) =
       ap (λ (l : List View). set (set l id (taken_in v.core w.core)) other spent) h.views
-      ∙ sym (map-set core_of (set s.views id both) other spent_sitting ∙ ap (λ (l : List View). set l other spent) (map-set core_of s.views id both)) in
+      ∙ sym (map-set view_of (set s.views id both) other spent_sitting ∙ ap (λ (l : List View). set l other spent) (map-set view_of s.views id both)) in
       record {
         core = join h.core id v.core other w.core;
         sizes = h.sizes;
@@ -83,7 +83,7 @@ module _ {P H : Type 0} (home : P → H) (source : P → ℕ) (name_of : H → �
       }
 
   -- no seat of a table has an allowance past the room
-  pub too_much : (id : ℕ) (v : Sitting P) (s : State (Cell P H) (Sitting P)) → Kept home source name_of plan s → get_elem? s.views id ≡ some v → 2 ^ 32 ≤ v.core.allowance → ⊥
+  pub too_much : (id : ℕ) (v : Sitting P) (s : State (Cell P H) (Sitting P)) → KeepsList home source name_of plan s → get_elem? s.views id ≡ some v → 2 ^ 32 ≤ v.core.allowance → ⊥
   too_much id v s h at much =
       let lawful = kept_lawful home source name_of plan s h in let room = lawful.room in let size = (kept_sizes home source name_of plan s h).2 in let few = h.sizes.few_writes in
       let mine = term_le allowance_of h.core.views id v.core (kept_view home source name_of plan s h id v at) in omega arith

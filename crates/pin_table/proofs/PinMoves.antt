@@ -33,8 +33,8 @@ use Rattle.pin_table.specs.declared.sitting.Sitting.{Sitting}
 use Rattle.pin_table.specs.Layout.{slot_word}
 use Rattle.pin_table.specs.Seat.{knowing}
 use Rattle.pin_table.specs.Sources.{source_of}
-use Rattle.pin_table.specs.Places.{IsStocked, IsPlaceAt, StandsAtHome}
-use Rattle.pin_table.specs.Rule.{Kept}
+use Rattle.pin_table.specs.Places.{IsStockedPlace, IsPlaceAt, StandsAtHome}
+use Rattle.pin_table.specs.Rule.{KeepsList}
 use Rattle.pin_table.specs.Plays.{ForReader, MayGivePlace, PinAdded, PinTaken}
 use Rattle.pin_table.proofs.SourceLemmas.{source_kept, front_some, front_rises}
 use Rattle.pin_table.proofs.StepLemmas.{slot_written, Known, known, after_step, set_at, Steps, seen_part, seen_replays, reader_inside, plan_here, same_plan, for_step}
@@ -48,7 +48,7 @@ held_entry slot (e ∷ es) more = ⊎_elim
     (later.0, (suc later.1.0, (let low = later.1.1 in omega arith), later.1.2), later.2, later.3))
     (cases_Bool ((e.slot == slot) && e.held))
 
-module _ {P H : Type 0} (home : P → H) (source : P → ℕ) (name_of : H → ℕ → List ℕ) (plan : Plan P) (s : State (Cell P H) (Sitting P)) (h : Kept home source name_of plan s)
+module _ {P H : Type 0} (home : P → H) (source : P → ℕ) (name_of : H → ℕ → List ℕ) (plan : Plan P) (s : State (Cell P H) (Sitting P)) (h : KeepsList home source name_of plan s)
     (id number : ℕ) (m : Me (Cell P H) (Sitting P)) (seated : get_elem? s.views id ≡ some m.0) (reader : IsReader number m.0.core) where
   abbrev core : CoreState
   core = h.core
@@ -112,7 +112,7 @@ module _ {P H : Type 0} (home : P → H) (source : P → ℕ) (name_of : H → �
 
     -- the rule afterwards, where these homes are left
     pinned_rule : (homes : List (maybe.Option (Cell P H))) → StandsAtHome home source name_of plan homes t
-        → Kept home source name_of plan record { words = set s.words (slot_word slot) ((found slot inside + 1) % 2 ^ 64); homes = homes; views = set s.views id w }
+        → KeepsList home source name_of plan record { words = set s.words (slot_word slot) ((found slot inside + 1) % 2 ^ 64); homes = homes; views = set s.views id w }
     pinned_rule homes at_home = after_step home source name_of plan s h id w t (set s.words (slot_word slot) ((found slot inside + 1) % 2 ^ 64)) homes (adds id number v k.has may) refl
         (slot_written s.words core t slot ((found slot inside + 1) % 2 ^ 64) record { number = number_at core.words slot; count = count_at core.words slot + 1 } h.words inside k.lawful.follows.wide more refl refl refl refl) at_home
 
@@ -166,13 +166,13 @@ module _ {P H : Type 0} (home : P → H) (source : P → ℕ) (name_of : H → �
             (λ same. let few = h.sizes in let numbers = few.few_readers in let readers = k.readers in let mine = mine_inside in let low = before_book core.slots slot number inside (omega arith) in let slots = k.slots in omega arith) ∙ h.homes.book free;
       }
 
-      stocked_here : IsStocked home source (home plan.first) (source_of v.seen (front_number core.slots v.seen)) own_place.cell
+      stocked_here : IsStockedPlace home source (home plan.first) (source_of v.seen (front_number core.slots v.seen)) own_place.cell
       stocked_here =
           let positive = front_some core.slots v.seen k.some replay in
           let kept = source_kept core.slots (front_number core.slots v.seen) core.journal v.seen k.some k.lawful.follows.replay part positive (omega arith) in
-          subst (λ n. IsStocked home source (home plan.first) n own_place.cell) (ap (source_of core.journal) front ∙ kept) (own_place.stocked (omega arith))
+          subst (λ n. IsStockedPlace home source (home plan.first) n own_place.cell) (ap (source_of core.journal) front ∙ kept) (own_place.stocked (omega arith))
 
-    pub adds_at : Steps (Kept home source name_of plan) s id m (slot_word slot) (λ n. (n + 1) % 2 ^ 64) (λ n m'. PinAdded home source here_plan number m n m')
+    pub adds_at : Steps (KeepsList home source name_of plan) s id m (slot_word slot) (λ n. (n + 1) % 2 ^ 64) (λ n m'. PinAdded home source here_plan number m n m')
     adds_at = ⊎_elim
         (λ (front : number_at core.words slot ≡ front_number core.slots v.seen). ⊎_elim
         (λ (bare : held_at slot v ≡ 0). (
@@ -237,7 +237,7 @@ module _ {P H : Type 0} (home : P → H) (source : P → ℕ) (name_of : H → �
     less = let is = word_is e.slot inside' in let few = small e.slot inside' in let pins = counted core k.lawful id number v k.has e among in omega arith
 
     unpinned_rule : (homes : List (maybe.Option (Cell P H))) → StandsAtHome home source name_of plan homes t'
-        → Kept home source name_of plan record { words = set s.words (slot_word e.slot) ((found e.slot inside' + (2 ^ 64 - 1)) % 2 ^ 64); homes = homes; views = set s.views id w' }
+        → KeepsList home source name_of plan record { words = set s.words (slot_word e.slot) ((found e.slot inside' + (2 ^ 64 - 1)) % 2 ^ 64); homes = homes; views = set s.views id w' }
     unpinned_rule homes at_home = after_step home source name_of plan s h id w' t' (set s.words (slot_word e.slot) ((found e.slot inside' + (2 ^ 64 - 1)) % 2 ^ 64)) homes (takes_off id number v at e k.has may) refl
         (slot_written s.words core t' e.slot ((found e.slot inside' + (2 ^ 64 - 1)) % 2 ^ 64) record { number = number_at core.words e.slot; count = count_at core.words e.slot - 1 } h.words inside' k.lawful.follows.wide less refl refl refl refl) at_home
 
@@ -288,12 +288,12 @@ module _ {P H : Type 0} (home : P → H) (source : P → ℕ) (name_of : H → �
       below = let few = h.sizes in let numbers = few.few_readers in let readers = k.readers in let mine = mine_inside in let low = before_book core.slots e.slot number inside' (omega arith) in
           let slots = k.slots in let deep = h.homes.deep in (low, omega arith)
 
-      stocked_back : IsStocked home source (home plan.first) (source_of core.journal (number_at core.words e.slot)) cell
+      stocked_back : IsStockedPlace home source (home plan.first) (source_of core.journal (number_at core.words e.slot)) cell
       stocked_back =
           let early = replays_take core.slots v.seen e.position replay in
           let kept = source_kept core.slots (entry_number core.slots v.seen e) core.journal v.seen k.some k.lawful.follows.replay part
           (front_some core.slots (take e.position v.seen) k.some early) (front_rises core.slots e.position v.seen k.some replay) in
-          subst (λ n. IsStocked home source (home plan.first) n cell) (sym (ap (source_of core.journal) (number_is held) ∙ kept)) (give held one).stocked
+          subst (λ n. IsStockedPlace home source (home plan.first) n cell) (sym (ap (source_of core.journal) (number_is held) ∙ kept)) (give held one).stocked
 
       gives_place : StandsAtHome home source name_of plan homes'' t'
       gives_place = record {
@@ -311,14 +311,14 @@ module _ {P H : Type 0} (home : P → H) (source : P → ℕ) (name_of : H → �
         book = λ free. set_else s.homes p (book_place plan.slots) (some cell) (λ same. let low = below.0 in let slots = k.slots in omega arith) ∙ h.homes.book free;
       }
 
-    pub takes_at : Steps (Kept home source name_of plan) s id m (slot_word e.slot) (λ n. (n + (2 ^ 64 - 1)) % 2 ^ 64) (λ n m'. PinTaken home source here_plan at e m n m')
+    pub takes_at : Steps (KeepsList home source name_of plan) s id m (slot_word e.slot) (λ n. (n + (2 ^ 64 - 1)) % 2 ^ 64) (λ n m'. PinTaken home source here_plan at e m n m')
     takes_at = ⊎_elim
         (λ (held : e.held ≡ true). ⊎_elim
         (λ (one : held_at e.slot v ≡ 1). (
           w',
           gives,
           tt,
-          subst (λ hs. Kept home source name_of plan record { words = set s.words (slot_word e.slot) ((found e.slot inside' + (2 ^ 64 - 1)) % 2 ^ 64); homes = hs; views = set s.views id w' }) (sym (ap (put_back s.homes) (give held one).is))
+          subst (λ hs. KeepsList home source name_of plan record { words = set s.words (slot_word e.slot) ((found e.slot inside' + (2 ^ 64 - 1)) % 2 ^ 64); homes = hs; views = set s.views id w' }) (sym (ap (put_back s.homes) (give held one).is))
               (unpinned_rule (homes'' held one) (gives_place held one)),
           record { view = refl; shown = told; last = λ _ _. refl; further = λ _ more. absurd (omega arith); stray = λ is. absurd (both_ways e.held is held) },
         ))
@@ -344,18 +344,18 @@ module _ {P H : Type 0} (home : P → H) (source : P → ℕ) (name_of : H → �
 
 module _ {P H : Type 0} (home : P → H) (source : P → ℕ) (name_of : H → ℕ → List ℕ) where
   pub adds_pin : (plan : Plan P) (slots id number slot : ℕ) (m : Me (Cell P H) (Sitting P)) → m.0.plan ≡ Some plan → IsReader number m.0.core → MayPin m.0.core → slot ≡ front_slot plan.slots m.0.core.seen
-      → Allows (Kept home source name_of plan) slots id m (slot_word slot) (λ n. (n + 1) % 2 ^ 64) (λ n m'. ForReader m.0 (λ p r. PinAdded home source p r m n m'))
+      → Allows (KeepsList home source name_of plan) slots id m (slot_word slot) (λ n. (n + 1) % 2 ^ 64) (λ n m'. ForReader m.0 (λ p r. PinAdded home source p r m n m'))
   adds_pin plan slots id number slot m of_plan reader may is s h deep at fits =
       let k = known home source name_of plan s h id number m.0 at reader in let same = same_plan plan h.core id number m.0.core k in
-      subst (λ n. Steps (Kept home source name_of plan) s id m (slot_word n) (λ n. (n + 1) % 2 ^ 64) (λ n m'. ForReader m.0 (λ p r. PinAdded home source p r m n m'))) (ap (λ (q : Plan P). front_slot q.slots m.0.core.seen) same ∙ sym is)
-      (for_step (Kept home source name_of plan) s id (slot_word (front_slot h.core.slots m.0.core.seen)) m (λ n. (n + 1) % 2 ^ 64) (λ p r n m'. PinAdded home source p r m n m') plan (plan_here plan h.core) number of_plan reader same
+      subst (λ n. Steps (KeepsList home source name_of plan) s id m (slot_word n) (λ n. (n + 1) % 2 ^ 64) (λ n m'. ForReader m.0 (λ p r. PinAdded home source p r m n m'))) (ap (λ (q : Plan P). front_slot q.slots m.0.core.seen) same ∙ sym is)
+      (for_step (KeepsList home source name_of plan) s id (slot_word (front_slot h.core.slots m.0.core.seen)) m (λ n. (n + 1) % 2 ^ 64) (λ p r n m'. PinAdded home source p r m n m') plan (plan_here plan h.core) number of_plan reader same
       (adds_at home source name_of plan s h id number m at reader may))
 
   pub takes_pin : (plan : Plan P) (slots id number place_at : ℕ) (e : Entry) (m : Me (Cell P H) (Sitting P)) → m.0.plan ≡ Some plan → IsReader number m.0.core → MayTake place_at e m.0.core
       → (e.held ≡ true → held_at e.slot m.0.core ≡ 1 → MayGivePlace home source plan m.0.core.seen (entry_number plan.slots m.0.core.seen e) (place e.slot number) m.1)
-      → Allows (Kept home source name_of plan) slots id m (slot_word e.slot) (λ n. (n + (2 ^ 64 - 1)) % 2 ^ 64) (λ n m'. ForReader m.0 (λ p r. PinTaken home source p place_at e m n m'))
+      → Allows (KeepsList home source name_of plan) slots id m (slot_word e.slot) (λ n. (n + (2 ^ 64 - 1)) % 2 ^ 64) (λ n m'. ForReader m.0 (λ p r. PinTaken home source p place_at e m n m'))
   takes_pin plan slots id number place_at e m of_plan reader may give s h deep at fits =
       let k = known home source name_of plan s h id number m.0 at reader in let same = same_plan plan h.core id number m.0.core k in
-      for_step (Kept home source name_of plan) s id (slot_word e.slot) m (λ n. (n + (2 ^ 64 - 1)) % 2 ^ 64) (λ p r n m'. PinTaken home source p place_at e m n m') plan (plan_here plan h.core) number of_plan reader same
+      for_step (KeepsList home source name_of plan) s id (slot_word e.slot) m (λ n. (n + (2 ^ 64 - 1)) % 2 ^ 64) (λ p r n m'. PinTaken home source p place_at e m n m') plan (plan_here plan h.core) number of_plan reader same
       (takes_at home source name_of plan s h id number m at reader place_at e may
       (subst (λ (q : Plan P). e.held ≡ true → held_at e.slot m.0.core ≡ 1 → MayGivePlace home source q m.0.core.seen (entry_number q.slots m.0.core.seen e) (place e.slot number) m.1) (sym same) give))

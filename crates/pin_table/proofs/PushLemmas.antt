@@ -34,7 +34,7 @@ use Rattle.pin_table.specs.declared.sitting.Sitting.{Sitting}
 use Rattle.pin_table.specs.Runs.{run_from, CarriesRun}
 use Rattle.pin_table.specs.Shelf.{full_shelf, AreOf}
 use Rattle.pin_table.specs.Sources.{sources, source_of, book_of}
-use Rattle.pin_table.specs.Places.{IsStocked}
+use Rattle.pin_table.specs.Places.{IsStockedPlace}
 use Rattle.pin_table.specs.Plays.{GoesOn, HasStockedRun}
 use Rattle.pin_table.specs.Idle.{IsIdle}
 use Rattle.pin_table.specs.Turns.{finding, PushAnswers, Pushes, RefusesPush}
@@ -81,7 +81,7 @@ module _ {P H : Type 0} (home : P → H) (source : P → ℕ) (plan : Plan P) wh
       let rest : drop plan.readers carried ≡ behind = ap (λ n. drop n carried) (sym many) ∙ (ap (λ l. drop (length cells) l) is ∙ behind_run (place slot 0) cells behind) in record {
         cells = cells;
         many = many;
-        stocked = λ i cell at. subst (IsStocked home source (home plan.first) (source version)) (sym (each_of_replicate plan.readers i (Place (full_shelf version)) cell at))
+        stocked = λ i cell at. subst (IsStockedPlace home source (home plan.first) (source version)) (sym (each_of_replicate plan.readers i (Place (full_shelf version)) cell at))
             record { shelf = full_shelf version; is = refl; full = refl; alike = alike_of version of_home 8 };
         is = is ∙ ap (λ l. run_from (place slot 0) cells ++ l) (sym rest);
       }

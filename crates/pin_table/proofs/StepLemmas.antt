@@ -32,9 +32,9 @@ use Rattle.pin_table.specs.declared.sitting.Plan.{Plan}
 use Rattle.pin_table.specs.declared.sitting.Sitting.{Sitting}
 use Rattle.pin_table.specs.declared.layout.TheConstants.{FRONT_WORD, TURN_WORD}
 use Rattle.pin_table.specs.Layout.{slot_word, word_count}
-use Rattle.pin_table.specs.Seat.{core_of}
+use Rattle.pin_table.specs.Seat.{view_of}
 use Rattle.pin_table.specs.Places.{StandsAtHome}
-use Rattle.pin_table.specs.Rule.{Shows, Kept}
+use Rattle.pin_table.specs.Rule.{Shows, KeepsList}
 use Rattle.pin_table.proofs.OldStrays.{sizes_stay}
 
 -- ---- words ----
@@ -125,7 +125,7 @@ for_reader plan number v fact of_plan reader is p r of_p of_r =
     subst (λ (x : Plan _ × ℕ). fact x.0 x.1) (λ i. (same i, same_number i)) is
 
 module _ {P H : Type 0} (home : P → H) (source : P → ℕ) (name_of : H → ℕ → List ℕ) where
-  pub known : (plan : Plan P) (s : State (Cell P H) (Sitting P)) (h : Kept home source name_of plan s) (id number : ℕ) (v : Sitting P) → get_elem? s.views id ≡ some v → IsReader number v.core
+  pub known : (plan : Plan P) (s : State (Cell P H) (Sitting P)) (h : KeepsList home source name_of plan s) (id number : ℕ) (v : Sitting P) → get_elem? s.views id ≡ some v → IsReader number v.core
       → Known plan h.core id number v.core
   known plan s h id number v at reader =
       let few = h.sizes in let least = few.some_slots in let same = sizes_stay (opening_state plan.slots plan.readers plan.room) h.core h.reached in record {
@@ -134,19 +134,19 @@ module _ {P H : Type 0} (home : P → H) (source : P → ℕ) (name_of : H → �
         slots = same.0;
         readers = same.1;
         room = same.2;
-        has = record { here = ap (λ (l : List View). get_elem? l id) h.views ∙ at_map core_of s.views id v at; reader = reader };
+        has = record { here = ap (λ (l : List View). get_elem? l id) h.views ∙ at_map view_of s.views id v at; reader = reader };
       }
 
   -- the rule after a step that changes what one seat knows
-  pub after_step : (plan : Plan P) (s : State (Cell P H) (Sitting P)) (h : Kept home source name_of plan s) (id : ℕ) (w : Sitting P) (t : CoreState) (words : List ℕ) (homes : List (mathlib.Core.Option.Option (Cell P H)))
+  pub after_step : (plan : Plan P) (s : State (Cell P H) (Sitting P)) (h : KeepsList home source name_of plan s) (id : ℕ) (w : Sitting P) (t : CoreState) (words : List ℕ) (homes : List (mathlib.Core.Option.Option (Cell P H)))
       → Moves h.core t → t.views ≡ set h.core.views id w.core → Shows words t → StandsAtHome home source name_of plan homes t
-      → Kept home source name_of plan record { words = words; homes = homes; views = set s.views id w }
+      → KeepsList home source name_of plan record { words = words; homes = homes; views = set s.views id w }
   after_step plan s h id w t words homes move views shown at_home = record {
     core = t;
     sizes = h.sizes;
     reached = moves_on h.core t h.reached move;
     words = shown;
-    views = views ∙ ap (λ (l : List View). set l id w.core) h.views ∙ sym (map-set core_of s.views id w);
+    views = views ∙ ap (λ (l : List View). set l id w.core) h.views ∙ sym (map-set view_of s.views id w);
     homes = at_home;
   }
 

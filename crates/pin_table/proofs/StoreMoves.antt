@@ -26,8 +26,8 @@ use Rattle.pin_table.specs.declared.layout.TheConstants.{FRONT_WORD}
 use Rattle.pin_table.specs.Seat.{knowing}
 use Rattle.pin_table.specs.Sources.{source_of}
 use Rattle.pin_table.specs.Runs.{run_from, gives_run}
-use Rattle.pin_table.specs.Places.{IsStocked, IsPlaceAt, StandsAtHome, IsBookAt}
-use Rattle.pin_table.specs.Rule.{Kept}
+use Rattle.pin_table.specs.Places.{IsStockedPlace, IsPlaceAt, StandsAtHome, IsBookAt}
+use Rattle.pin_table.specs.Rule.{KeepsList}
 use Rattle.pin_table.specs.Plays.{ForReader, MayWrite, EraseStored, PushStored, HasStockedRun, stored_word}
 use Rattle.pin_table.proofs.SourceLemmas.{source_stays, source_pushed}
 use Rattle.pin_table.proofs.RunLemmas.{carried_given, given_else, given_here, given_length, given_valid, within_run}
@@ -39,7 +39,7 @@ next_number : (slots : ℕ) (journal : List Write) (change : Change) (n src slot
 unfolding front_number
 next_number slots journal change n src slot allows push = (push_asks (state_after slots journal) n src slot (subst (λ c. allowed (state_after slots journal) c ≡ true) push allows)).next
 
-module _ {P H : Type 0} (home : P → H) (source : P → ℕ) (name_of : H → ℕ → List ℕ) (plan : Plan P) (s : State (Cell P H) (Sitting P)) (h : Kept home source name_of plan s)
+module _ {P H : Type 0} (home : P → H) (source : P → ℕ) (name_of : H → ℕ → List ℕ) (plan : Plan P) (s : State (Cell P H) (Sitting P)) (h : KeepsList home source name_of plan s)
     (id number : ℕ) (m : Me (Cell P H) (Sitting P)) (seated : get_elem? s.views id ≡ some m.0) (reader : IsReader number m.0.core) (write : Write) (may : MayWrite plan.slots number write m.0.core) where
   abbrev core : CoreState
   core = h.core
@@ -85,22 +85,22 @@ module _ {P H : Type 0} (home : P → H) (source : P → ℕ) (name_of : H → �
       let kept = k.lawful.follows.kept at low free in let most = kept_le core.slots core.journal at k.some k.lawful.follows.replay in omega arith
 
   -- what is stocked with the version of a number is so after one more write
-  stocked_later : (n : ℕ) (cell : Cell P H) → n ≤ front_number core.slots core.journal → (0 < n → IsStocked home source (home plan.first) (source_of core.journal n) cell) → 0 < n → IsStocked home source (home plan.first) (source_of t.journal n) cell
+  stocked_later : (n : ℕ) (cell : Cell P H) → n ≤ front_number core.slots core.journal → (0 < n → IsStockedPlace home source (home plan.first) (source_of core.journal n) cell) → 0 < n → IsStockedPlace home source (home plan.first) (source_of t.journal n) cell
   stocked_later n cell old stocked positive =
-      subst (λ src. IsStocked home source (home plan.first) src cell) (sym (source_stays core.slots n core.journal (write ∷ []) k.some k.lawful.follows.replay positive old)) (stocked positive)
+      subst (λ src. IsStockedPlace home source (home plan.first) src cell) (sym (source_stays core.slots n core.journal (write ∷ []) k.some k.lawful.follows.replay positive old)) (stocked positive)
 
   -- the places at home, with the numbers of their versions
   numbered : PlacesAtHome (λ at r n. (r < core.readers) × (n ≤ front_number core.slots core.journal) × IsPlaceAt home source s.homes (home plan.first) core.journal (place at r) n) core
   numbered at r low mine none = (mine, old_number at r low none, h.homes.places at r low mine none)
 
-  stored_rule : (homes : List (maybe.Option (Cell P H))) → StandsAtHome home source name_of plan homes t → Kept home source name_of plan record { words = set s.words FRONT_WORD new; homes = homes; views = set s.views id w }
+  stored_rule : (homes : List (maybe.Option (Cell P H))) → StandsAtHome home source name_of plan homes t → KeepsList home source name_of plan record { words = set s.words FRONT_WORD new; homes = homes; views = set s.views id w }
   stored_rule homes at_home = after_step home source name_of plan s h id w t (set s.words FRONT_WORD new) homes (stores id number v write k.has allowed_store) refl
       (front_written s.words core t new h.words new_is refl refl refl) at_home
 
   -- ---- an erase ----
 
   module _ (after gone : ℕ) (erase : write.change ≡ Erase after gone) where
-    pub erases_at : Steps (Kept home source name_of plan) s id m FRONT_WORD (λ _. new) (λ n m'. EraseStored write m m')
+    pub erases_at : Steps (KeepsList home source name_of plan) s id m FRONT_WORD (λ _. new) (λ n m'. EraseStored write m m')
     erases_at = (
       w,
       keeps,
@@ -157,29 +157,29 @@ module _ {P H : Type 0} (home : P → H) (source : P → ℕ) (name_of : H → �
           let to : place slot 0 + r ≡ place slot r = omega arith in record {
             cell = cell.0;
             here = subst (λ p. get_elem? homes' p ≡ some (some cell.0)) to (given_here s.homes behind (place slot 0) cells r cell.0 (omega arith) cell.1);
-            stocked = λ _. subst (λ q. IsStocked home source (home plan.first) q cell.0) (sym source_is) (run.stocked r cell.0 cell.1);
+            stocked = λ _. subst (λ q. IsStockedPlace home source (home plan.first) q cell.0) (sym source_is) (run.stocked r cell.0 cell.1);
           })
           numbered;
       book = store_book (IsBookAt home source name_of homes' plan) core id number v write k.lawful k.has allowed_store;
     }
 
-    pub pushes_at : Steps (Kept home source name_of plan) s id m FRONT_WORD (λ _. new) (λ n m'. PushStored plan write m m')
+    pub pushes_at : Steps (KeepsList home source name_of plan) s id m FRONT_WORD (λ _. new) (λ n m'. PushStored plan write m m')
     pushes_at = (
       w,
       gives_run (length cells),
       given_valid s.homes m.1 (length cells),
-      subst (λ c. Kept home source name_of plan record { words = set s.words FRONT_WORD new; homes = homes_after s.homes c (gives_run (length cells)); views = set s.views id w }) (sym run.is) (stored_rule homes' pushed),
+      subst (λ c. KeepsList home source name_of plan record { words = set s.words FRONT_WORD new; homes = homes_after s.homes c (gives_run (length cells)); views = set s.views id w }) (sym run.is) (stored_rule homes' pushed),
       ap (λ (c : List (ℕ × Cell P H)). (w, carried_after c (gives_run (length cells)))) run.is ∙ ap (λ (c : List (ℕ × Cell P H)). (w, c)) (carried_given behind (place slot 0) cells),
     )
 
 module _ {P H : Type 0} (home : P → H) (source : P → ℕ) (name_of : H → ℕ → List ℕ) where
   pub stores_erase : (plan : Plan P) (slots id number after gone : ℕ) (write : Write) (m : Me (Cell P H) (Sitting P)) → IsReader number m.0.core → MayWrite plan.slots number write m.0.core → write.change ≡ Erase after gone
-      → Allows (Kept home source name_of plan) slots id m FRONT_WORD (λ _. stored_word plan.slots (m.0.core.seen ++ write ∷ [])) (λ _ m'. EraseStored write m m')
+      → Allows (KeepsList home source name_of plan) slots id m FRONT_WORD (λ _. stored_word plan.slots (m.0.core.seen ++ write ∷ [])) (λ _ m'. EraseStored write m m')
   stores_erase plan slots id number after gone write m reader may erase s h deep at fits = erases_at home source name_of plan s h id number m at reader write may after gone erase
 
   pub stores_push : (plan : Plan P) (slots id number n src slot : ℕ) (write : Write) (m : Me (Cell P H) (Sitting P)) → IsReader number m.0.core → MayWrite plan.slots number write m.0.core
       → m.0.plan ≡ Some plan → write.change ≡ Push n src slot → HasStockedRun home source plan slot src m.1
-      → Allows (Kept home source name_of plan) slots id m FRONT_WORD (λ _. stored_word plan.slots (m.0.core.seen ++ write ∷ [])) (λ _ m'. ForReader m.0 (λ p r. PushStored p write m m'))
+      → Allows (KeepsList home source name_of plan) slots id m FRONT_WORD (λ _. stored_word plan.slots (m.0.core.seen ++ write ∷ [])) (λ _ m'. ForReader m.0 (λ p r. PushStored p write m m'))
   stores_push plan slots id number n src slot write m reader may of_plan push run s h deep at fits =
-      for_step (Kept home source name_of plan) s id FRONT_WORD m (λ _. stored_word plan.slots (m.0.core.seen ++ write ∷ [])) (λ p r n m'. PushStored p write m m') plan plan number of_plan reader refl
+      for_step (KeepsList home source name_of plan) s id FRONT_WORD m (λ _. stored_word plan.slots (m.0.core.seen ++ write ∷ [])) (λ p r n m'. PushStored p write m m') plan plan number of_plan reader refl
       (pushes_at home source name_of plan s h id number m at reader write may n src slot push run)

@@ -26,12 +26,12 @@ use Rattle.pin_table.specs.declared.layout.TheConstants.{TURN_WORD}
 use Rattle.pin_table.specs.Seat.{knowing}
 use Rattle.pin_table.specs.Sources.{book_of}
 use Rattle.pin_table.specs.Places.{IsPlaceAt, StandsAtHome, IsBookAt}
-use Rattle.pin_table.specs.Rule.{Kept}
+use Rattle.pin_table.specs.Rule.{KeepsList}
 use Rattle.pin_table.specs.Plays.{ForReader, TurnTaken, TurnMissed, TurnTried, TurnGiven, book_cell}
 use Rattle.pin_table.proofs.FrontLoads.{goes_on}
 use Rattle.pin_table.proofs.StepLemmas.{same_words, turn_written, Known, known, after_step, Steps, reader_inside, same_plan, for_step}
 
-module _ {P H : Type 0} (home : P → H) (source : P → ℕ) (name_of : H → ℕ → List ℕ) (plan : Plan P) (s : State (Cell P H) (Sitting P)) (h : Kept home source name_of plan s)
+module _ {P H : Type 0} (home : P → H) (source : P → ℕ) (name_of : H → ℕ → List ℕ) (plan : Plan P) (s : State (Cell P H) (Sitting P)) (h : KeepsList home source name_of plan s)
     (id number : ℕ) (m : Me (Cell P H) (Sitting P)) (seated : get_elem? s.views id ≡ some m.0) (reader : IsReader number m.0.core) where
   abbrev core : CoreState
   core = h.core
@@ -90,8 +90,8 @@ module _ {P H : Type 0} (home : P → H) (source : P → ℕ) (name_of : H → �
         book = λ nobody. absurd (cc);
       }
 
-      taken_rule : Kept home source name_of plan record { words = set s.words TURN_WORD (either (word == packed_turn None) new word); homes = homes'; views = set s.views id w }
-      taken_rule = subst (λ n. Kept home source name_of plan record { words = set s.words TURN_WORD n; homes = homes'; views = set s.views id w }) (sym (ap (λ b. either b new word) (eq-eqb word (packed_turn None) won)))
+      taken_rule : KeepsList home source name_of plan record { words = set s.words TURN_WORD (either (word == packed_turn None) new word); homes = homes'; views = set s.views id w }
+      taken_rule = subst (λ n. KeepsList home source name_of plan record { words = set s.words TURN_WORD n; homes = homes'; views = set s.views id w }) (sym (ap (λ b. either b new word) (eq-eqb word (packed_turn None) won)))
           (after_step home source name_of plan s h id w (take_turn core id number v) (set s.words TURN_WORD new) homes' (subst (Moves core) move_is (exchanges id number v k.has may)) refl
           (turn_written s.words core (take_turn core id number v) new h.words refl refl refl refl) taken_home)
 
@@ -117,8 +117,8 @@ module _ {P H : Type 0} (home : P → H) (source : P → ℕ) (name_of : H → �
         book = h.homes.book;
       }
 
-      missed_rule : Kept home source name_of plan record { words = set s.words TURN_WORD (either (word == packed_turn None) new word); homes = s.homes; views = set s.views id w' }
-      missed_rule = subst (λ ws. Kept home source name_of plan record { words = ws; homes = s.homes; views = set s.views id w' })
+      missed_rule : KeepsList home source name_of plan record { words = set s.words TURN_WORD (either (word == packed_turn None) new word); homes = s.homes; views = set s.views id w' }
+      missed_rule = subst (λ ws. KeepsList home source name_of plan record { words = ws; homes = s.homes; views = set s.views id w' })
           (sym (ap (λ b. set s.words TURN_WORD (either b new word)) (ne_eqb word (packed_turn None) lost) ∙ set-get_or s.words TURN_WORD 0))
           (after_step home source name_of plan s h id w' (miss_turn core id v) s.words s.homes (subst (Moves core) move_else (exchanges id number v k.has may)) refl
           (same_words s.words core (miss_turn core id v) h.words refl refl refl refl) missed_home)
@@ -134,7 +134,7 @@ module _ {P H : Type 0} (home : P → H) (source : P → ℕ) (name_of : H → �
             let other = holder_other core id number holder v k.lawful k.has may.idle turn_is in omega arith);
       }
 
-    pub tries_at : Steps (Kept home source name_of plan) s id m TURN_WORD (λ n. either (n == packed_turn None) new n) (λ n m'. TurnTried home name_of plan number m n m')
+    pub tries_at : Steps (KeepsList home source name_of plan) s id m TURN_WORD (λ n. either (n == packed_turn None) new n) (λ n m'. TurnTried home name_of plan number m n m')
     tries_at = ⊎_elim
         (λ (won : word ≡ packed_turn None). (
           w won,
@@ -146,7 +146,7 @@ module _ {P H : Type 0} (home : P → H) (source : P → ℕ) (name_of : H → �
         (λ (lost : word ≢ packed_turn None). by_turn lost core.turn refl)
         (cases_eq word (packed_turn None))
       where
-        by_turn : word ≢ packed_turn None → (turn : Option ℕ) → core.turn ≡ turn → Steps (Kept home source name_of plan) s id m TURN_WORD (λ n. either (n == packed_turn None) new n) (λ n m'. TurnTried home name_of plan number m n m')
+        by_turn : word ≢ packed_turn None → (turn : Option ℕ) → core.turn ≡ turn → Steps (KeepsList home source name_of plan) s id m TURN_WORD (λ n. either (n == packed_turn None) new n) (λ n m'. TurnTried home name_of plan number m n m')
         by_turn lost None is = absurd (lost (h.words.turn ∙ ap packed_turn is))
         by_turn lost (Some holder) is = (w' lost holder is, keeps, tt, missed_rule lost holder is, record { won = λ won. absurd (lost won); lost = λ _. missed lost holder is })
 
@@ -166,12 +166,12 @@ module _ {P H : Type 0} (home : P → H) (source : P → ℕ) (name_of : H → �
       book = give_book (IsBookAt home source name_of homes'' plan) core id number v k.lawful k.has may.turn (set_here s.homes (book_place plan.slots) (some cell) book_inside);
     }
 
-    pub gives_at : Steps (Kept home source name_of plan) s id m TURN_WORD (λ _. packed_turn None) (λ n m'. TurnGiven m m')
+    pub gives_at : Steps (KeepsList home source name_of plan) s id m TURN_WORD (λ _. packed_turn None) (λ n m'. TurnGiven m m')
     gives_at = (
       knowing (gave_turn v) m.0,
       gives,
       tt,
-      subst (λ hs. Kept home source name_of plan record { words = set s.words TURN_WORD (packed_turn None); homes = hs; views = set s.views id (knowing (gave_turn v) m.0) }) (sym (ap (put_back s.homes) give))
+      subst (λ hs. KeepsList home source name_of plan record { words = set s.words TURN_WORD (packed_turn None); homes = hs; views = set s.views id (knowing (gave_turn v) m.0) }) (sym (ap (put_back s.homes) give))
           (after_step home source name_of plan s h id (knowing (gave_turn v) m.0) (give_turn core id v) (set s.words TURN_WORD (packed_turn None)) homes'' (gives_back id number v k.has may) refl
           (turn_written s.words core (give_turn core id v) (packed_turn None) h.words refl refl refl refl) given_home),
       refl,
@@ -179,11 +179,11 @@ module _ {P H : Type 0} (home : P → H) (source : P → ℕ) (name_of : H → �
 
 module _ {P H : Type 0} (home : P → H) (source : P → ℕ) (name_of : H → ℕ → List ℕ) where
   pub tries_turn : (plan : Plan P) (slots id number : ℕ) (m : Me (Cell P H) (Sitting P)) → m.0.plan ≡ Some plan → IsReader number m.0.core → MayTakeTurn m.0.core
-      → Allows (Kept home source name_of plan) slots id m TURN_WORD (λ n. either (n == packed_turn None) (packed_turn (Some number)) n) (λ n m'. ForReader m.0 (λ p r. TurnTried home name_of p r m n m'))
+      → Allows (KeepsList home source name_of plan) slots id m TURN_WORD (λ n. either (n == packed_turn None) (packed_turn (Some number)) n) (λ n m'. ForReader m.0 (λ p r. TurnTried home name_of p r m n m'))
   tries_turn plan slots id number m of_plan reader may s h deep at fits =
-      for_step (Kept home source name_of plan) s id TURN_WORD m (λ n. either (n == packed_turn None) (packed_turn (Some number)) n) (λ p r n m'. TurnTried home name_of p r m n m') plan plan number of_plan reader refl
+      for_step (KeepsList home source name_of plan) s id TURN_WORD m (λ n. either (n == packed_turn None) (packed_turn (Some number)) n) (λ p r n m'. TurnTried home name_of p r m n m') plan plan number of_plan reader refl
       (tries_at home source name_of plan s h id number m at reader may)
 
   pub gives_turn : (plan : Plan P) (slots id number : ℕ) (m : Me (Cell P H) (Sitting P)) → IsReader number m.0.core → MayGive m.0.core → m.1 ≡ book_cell home name_of plan m.0.core.seen ∷ rest m.1
-      → Allows (Kept home source name_of plan) slots id m TURN_WORD (λ _. packed_turn None) (λ n m'. TurnGiven m m')
+      → Allows (KeepsList home source name_of plan) slots id m TURN_WORD (λ _. packed_turn None) (λ n m'. TurnGiven m m')
   gives_turn plan slots id number m reader may give s h deep at fits = gives_at home source name_of plan s h id number m at reader may give

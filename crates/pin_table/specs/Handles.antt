@@ -31,8 +31,8 @@ pub record Handle (P : Type 0) : Type 0 where
   pub reader : ℕ
 
 -- the pin that a handle stands on
-abbrev pub entry_of : {P : Type 0} → Handle P → Entry
-entry_of handle = record { slot = handle.slot; position = handle.position; held = true }
+abbrev pub pin_of : {P : Type 0} → Handle P → Entry
+pin_of handle = record { slot = handle.slot; position = handle.position; held = true }
 
 -- The pin holds what was the front at its position. The reader has seen that position, and after all that the reader has
 -- seen the slot still keeps that number.
@@ -80,10 +80,10 @@ module _ {P H : Type 0} where
     -- The reader made this handle and hasn't released it. Its version was the front at its position.
     pub record MadeBy (plan : Plan P) (v : View) (handle : Handle P) : Type 0 where
       pub reader : IsReader handle.reader v
-      pub pinned : Contains v.entries (entry_of handle)
-      pub holds : HoldsFront plan.slots v.seen (entry_of handle)
-      pub number : handle.number ≡ entry_number plan.slots v.seen (entry_of handle)
-      pub version : IsOf (home plan.first) (entry_source plan.slots v.seen (entry_of handle)) handle.version
+      pub pinned : Contains v.entries (pin_of handle)
+      pub holds : HoldsFront plan.slots v.seen (pin_of handle)
+      pub number : handle.number ≡ entry_number plan.slots v.seen (pin_of handle)
+      pub version : IsOf (home plan.first) (entry_source plan.slots v.seen (pin_of handle)) handle.version
 
     -- the copies at the reader's place at this slot: one fewer than on a full shelf for each handle there, and all of the
     -- version that those are of

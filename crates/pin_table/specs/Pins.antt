@@ -7,14 +7,14 @@ use Rattle.pin_core.specs.declared.view.View.{View}
 use Rattle.pin_core.specs.Step.{loaded, unpinned}
 use Rattle.pin_table.specs.declared.answers.Released.{Released}
 use Rattle.pin_table.specs.declared.reader.Reader.{Reader}
-use Rattle.pin_table.specs.Handles.{Handle, entry_of, MadeBy}
+use Rattle.pin_table.specs.Handles.{Handle, pin_of, MadeBy}
 use Rattle.pin_table.specs.Reader.{reader_view, seen, SeesMore}
 use Rattle.pin_table.specs.Table.{plan}
 
 -- what a reader knows once it has this handle more, after so many pins that missed, each with a load of its own
 abbrev pub with_handle : {P : Type 0} → List Write → ℕ → Handle P → View → View
 with_handle journal misses handle v =
-    record v { seen = journal; entries = v.entries ++ entry_of handle ∷ []; loads = v.loads + misses + 1; pins = v.pins + misses + 1 }
+    record v { seen = journal; entries = v.entries ++ pin_of handle ∷ []; loads = v.loads + misses + 1; pins = v.pins + misses + 1 }
 
 module _ {P H : Type 0} where
   module _ (home : P → H) (source : P → ℕ) where
@@ -32,7 +32,7 @@ module _ {P H : Type 0} where
     -- the same by one pin and without a load: the front is the one that the reader had seen last
     pub record PinsAtOnce {meanings : Ghosts P H} (reader reader' : Reader P H meanings) (handle : Handle P) : Type 0 where
       pub table : reader'.table.now ≡ reader.table.now
-      pub view : reader_view reader' ≡ record (reader_view reader) { entries = (reader_view reader).entries ++ entry_of handle ∷ []; pins = (reader_view reader).pins + 1 }
+      pub view : reader_view reader' ≡ record (reader_view reader) { entries = (reader_view reader).entries ++ pin_of handle ∷ []; pins = (reader_view reader).pins + 1 }
       pub position : handle.position ≡ length (seen reader)
       pub made : MadeBy home source (plan reader'.table.now) (reader_view reader') handle
 
@@ -46,7 +46,7 @@ module _ {P H : Type 0} where
   -- all that it has seen then the slot keeps that number.
   pub record Releases {meanings : Ghosts P H} (reader reader' : Reader P H meanings) (handle : Handle P) (released : Released) : Type 0 where
     pub at : ℕ
-    pub there : slice_get (reader_view reader).entries at ≡ Some (entry_of handle)
+    pub there : slice_get (reader_view reader).entries at ≡ Some (pin_of handle)
     pub more : SeesMore reader reader'
     pub view : reader_view reader' ≡ unpinned at (loaded (seen reader') (reader_view reader))
     pub number : released.number ≡ handle.number

@@ -16,7 +16,7 @@ use Rattle.pin_table.specs.Sources.{source_of, book_of}
 
 module _ {P H : Type 0} (home : P → H) (source : P → ℕ) where
   -- a full shelf of versions of this home and source
-  pub record IsStocked (h : H) (src : ℕ) (cell : Cell P H) : Type 0 where
+  pub record IsStockedPlace (h : H) (src : ℕ) (cell : Cell P H) : Type 0 where
     pub shelf : List P
     pub is : cell ≡ Place shelf
     pub full : length shelf ≡ SHELF_COPIES
@@ -26,7 +26,7 @@ module _ {P H : Type 0} (home : P → H) (source : P → ℕ) where
   pub record IsPlaceAt (homes : List (Option (Cell P H))) (h : H) (journal : List Write) (at number : ℕ) : Type 0 where
     pub cell : Cell P H
     pub here : get_elem? homes at ≡ some (some cell)
-    pub stocked : 0 < number → IsStocked h (source_of journal number) cell
+    pub stocked : 0 < number → IsStockedPlace h (source_of journal number) cell
 
   module _ (name_of : H → ℕ → List ℕ) where
     -- the book of this journal is at home

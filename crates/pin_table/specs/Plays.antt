@@ -22,7 +22,7 @@ use Rattle.pin_table.specs.declared.sitting.Sitting.{Sitting}
 use Rattle.pin_table.specs.Seat.{knowing}
 use Rattle.pin_table.specs.Runs.{run_from}
 use Rattle.pin_table.specs.Sources.{source_of, book_of}
-use Rattle.pin_table.specs.Places.{IsStocked}
+use Rattle.pin_table.specs.Places.{IsStockedPlace}
 
 -- the fact of how the seat's table was made, and of the seat's reader number
 abbrev pub ForReader : {P : Type 0} → Sitting P → (Plan P → ℕ → Type 0) → Type 0
@@ -98,13 +98,13 @@ module _ {P H : Type 0} where
     -- the seat has taken a place, which is stocked with the version of this number
     pub record TakesPlace (plan : Plan P) (journal : List Write) (number at : ℕ) (carried carried' : List (ℕ × Cell P H)) : Type 0 where
       pub cell : Cell P H
-      pub stocked : IsStocked home source (home plan.first) (source_of journal number) cell
+      pub stocked : IsStockedPlace home source (home plan.first) (source_of journal number) cell
       pub is : carried' ≡ (at, cell) ∷ carried
 
     -- the place that the seat has taken last is this one, and is stocked with the version of this number
     pub record MayGivePlace (plan : Plan P) (journal : List Write) (number at : ℕ) (carried : List (ℕ × Cell P H)) : Type 0 where
       pub cell : Cell P H
-      pub stocked : IsStocked home source (home plan.first) (source_of journal number) cell
+      pub stocked : IsStockedPlace home source (home plan.first) (source_of journal number) cell
       pub is : carried ≡ (at, cell) ∷ rest carried
 
     -- A pin was added at the slot of the front that the reader has seen last, whose word showed a number: the front's, or
@@ -178,7 +178,7 @@ module _ {P H : Type 0} where
     pub record HasStockedRun (plan : Plan P) (slot src : ℕ) (carried : List (ℕ × Cell P H)) : Type 0 where
       pub cells : List (Cell P H)
       pub many : length cells ≡ plan.readers
-      pub stocked : (i : ℕ) (cell : Cell P H) → get_elem? cells i ≡ some cell → IsStocked home source (home plan.first) src cell
+      pub stocked : (i : ℕ) (cell : Cell P H) → get_elem? cells i ≡ some cell → IsStockedPlace home source (home plan.first) src cell
       pub is : carried ≡ run_from (place slot 0) cells ++ drop plan.readers carried
 
     -- the change is a push, and the seat has taken the places of its slot last, stocked with versions of its source

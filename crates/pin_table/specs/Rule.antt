@@ -11,7 +11,7 @@ use Rattle.pin_table.specs.declared.cell.Cell.{Cell}
 use Rattle.pin_table.specs.declared.sitting.Plan.{Plan}
 use Rattle.pin_table.specs.declared.sitting.Sitting.{Sitting}
 use Rattle.pin_table.specs.Layout.{slot_word, word_count}
-use Rattle.pin_table.specs.Seat.{core_of, HasSizes}
+use Rattle.pin_table.specs.Seat.{view_of, HasSizes}
 use Rattle.pin_table.specs.Places.{StandsAtHome}
 
 -- the words of the table show this state; the words between them show nothing
@@ -23,10 +23,10 @@ pub record Shows (words : List ℕ) (s : CoreState) : Type 0 where
 
 module _ {P H : Type 0} (home : P → H) (source : P → ℕ) (name_of : H → ℕ → List ℕ) where
   -- Each state that steps reach is lawful, as pin_core proves.
-  pub record Kept (plan : Plan P) (s : State (Cell P H) (Sitting P)) : Type 0 where
+  pub record KeepsList (plan : Plan P) (s : State (Cell P H) (Sitting P)) : Type 0 where
     pub core : CoreState
     pub sizes : HasSizes plan
     pub reached : Reaches (opening_state plan.slots plan.readers plan.room) core
     pub words : Shows s.words core
-    pub views : core.views ≡ map core_of s.views
+    pub views : core.views ≡ map view_of s.views
     pub homes : StandsAtHome home source name_of plan s.homes core

@@ -10,8 +10,8 @@ use Rattle.pin_table.specs.declared.sitting.Key.{Key}
 
 module _ {P : Type 0} where
   -- what the seat knows of the list
-  abbrev pub core_of : Sitting P → View
-  core_of v = v.core
+  abbrev pub view_of : Sitting P → View
+  view_of v = v.core
 
   -- the same seat, which knows this of the list
   abbrev pub knowing : View → Sitting P → Sitting P

@@ -13,10 +13,10 @@ module _ {P : Type 0} where
   copies_in (Some copy ∷ fields) = arc_value copy ∷ copies_in fields
 
   -- no field behind an empty one holds a copy
-  abbrev pub AreInOrder : List (Option (Arc P Global)) → Type 0
-  AreInOrder [] = Unit {0}
-  AreInOrder (None ∷ fields) = copies_in fields ≡ []
-  AreInOrder (Some copy ∷ fields) = AreInOrder fields
+  abbrev pub HaveNoGap : List (Option (Arc P Global)) → Type 0
+  HaveNoGap [] = Unit {0}
+  HaveNoGap (None ∷ fields) = copies_in fields ≡ []
+  HaveNoGap (Some copy ∷ fields) = HaveNoGap fields
 
   -- as many copies of this version as a reader may have handles
   abbrev pub full_shelf : P → List P

@@ -108,8 +108,8 @@ finding slots slot v = record v { pinned = unlisted_below slots v.seen slot }
 
 module _ {P H : Type 0} (home : P → H) (source : P → ℕ) (name_of : H → ℕ → List ℕ) where
   -- what a version of the table is called
-  abbrev pub version_name : P → List ℕ
-  version_name version = name_of (home version) (source version)
+  abbrev pub payload_name : P → List ℕ
+  payload_name version = name_of (home version) (source version)
 
   -- the name of the front after these writes
   abbrev pub front_name : Plan P → List Write → List ℕ
@@ -119,21 +119,21 @@ module _ {P H : Type 0} (home : P → H) (source : P → ℕ) (name_of : H → �
 
   -- the front has the version's name
   pub record PushesSame (plan : Plan P) (v v' : View) (version : P) (w n : ℕ) : Type 0 where
-    pub same : version_name version ≡ front_name plan v.seen
+    pub same : payload_name version ≡ front_name plan v.seen
     pub is_w : w ≡ length v.seen
     pub is_n : n ≡ front_number plan.slots v.seen
     pub view : v' ≡ v
 
   -- it hasn't, and the reader may make no write
   pub record PushesTooMany (plan : Plan P) (v v' : View) (version : P) (w : ℕ) : Type 0 where
-    pub other : version_name version ≢ front_name plan v.seen
+    pub other : payload_name version ≢ front_name plan v.seen
     pub no_write : v.allowance ≡ 0
     pub is_w : w ≡ length v.seen
     pub view : v' ≡ v
 
   -- it may, and each slot is listed or was found pinned
   pub record PushesIntoFull (plan : Plan P) (v v' : View) (version : P) (w : ℕ) : Type 0 where
-    pub other : version_name version ≢ front_name plan v.seen
+    pub other : payload_name version ≢ front_name plan v.seen
     pub some_write : 0 < v.allowance
     pub pinned : FoundPinned plan.slots plan.readers v plan.slots
     pub is_w : w ≡ length v.seen
@@ -141,7 +141,7 @@ module _ {P H : Type 0} (home : P → H) (source : P → ℕ) (name_of : H → �
 
   -- the version went into the least unlisted slot that wasn't found pinned, in which the reader has no handle
   pub record PushesVersion (plan : Plan P) (by : ℕ) (v v' : View) (version : P) (pushed : Pushed) : Type 0 where
-    pub other : version_name version ≢ front_name plan v.seen
+    pub other : payload_name version ≢ front_name plan v.seen
     pub some_write : 0 < v.allowance
     pub pinned : FoundPinned plan.slots plan.readers v pushed.slot
     pub inside : pushed.slot < plan.slots

@@ -4,7 +4,7 @@ ghost use Rattle.pin_book.specs.declared.write.Write.{Write};
 ghost use Rattle.pin_book.specs.Replay.{replays};
 ghost use Rattle.pin_core.specs.declared.view.View.{View};
 ghost use Rattle.pin_table.specs.declared.sitting.Plan.{Plan};
-ghost use Rattle.pin_table.specs.Handles.{Handle, entry_of, AreAllHeld, MadeBy, IsOf};
+ghost use Rattle.pin_table.specs.Handles.{Handle, pin_of, AreAllHeld, MadeBy, IsOf};
 ghost use Rattle.pin_table.specs.Sources.{source_of};
 
 use pin_book::Payload;
@@ -19,7 +19,7 @@ pub fn what_is_seen_never_goes_back()
 pub fn a_handle_stays<P: Payload>()
     ensures { (plan : Plan P) (v later : View) (handle : Handle P) → MadeBy P.home P.source plan v handle
         → take (length v.seen) later.seen ≡ v.seen → later.role ≡ v.role → later.numbers ≡ v.numbers
-        → Contains later.entries (entry_of handle) → AreAllHeld plan.slots later → MadeBy P.home P.source plan later handle }
+        → Contains later.entries (pin_of handle) → AreAllHeld plan.slots later → MadeBy P.home P.source plan later handle }
 {}
 
 /// A handle's version is the one that the journal gives to the handle's number, by all that the reader has seen.

@@ -13,10 +13,10 @@ pub struct ListRule<P> {
 }
 
 impl<P: Payload> TableRule<Cell<P>, Sitting<P>, Key<P>> for ListRule<P> {
-    ghost use Rattle.pin_table.specs.Rule.{Kept};
+    ghost use Rattle.pin_table.specs.Rule.{KeepsList};
     ghost use Rattle.pin_table.specs.Seat.{plan_of, first_sitting};
 
-    ghost holds = { λ key. Kept P.home P.source P.name_of (plan_of key) };
+    ghost holds = { λ key. KeepsList P.home P.source P.name_of (plan_of key) };
 
     ghost first = { λ key. first_sitting (plan_of key) };
 }

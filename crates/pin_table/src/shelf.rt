@@ -30,14 +30,14 @@ pub struct Shelf<P: Payload> {
 
 impl<P: Payload> Model for Shelf<P> {
     ghost use Rattle.std.specs.Prelude.{List, [], ◌∷◌};
-    ghost use Rattle.pin_table.specs.Shelf.{copies_in, AreInOrder, AreAlike};
+    ghost use Rattle.pin_table.specs.Shelf.{copies_in, HaveNoGap, AreAlike};
 
     ghost Value = { List P };
 
     ghost view = { λ s. copies_in (s.first ∷ s.second ∷ s.third ∷ s.fourth ∷ s.fifth ∷ s.sixth ∷ s.seventh ∷ s.eighth ∷ []) };
 
     ghost invariant = { λ s. let fields = s.first ∷ s.second ∷ s.third ∷ s.fourth ∷ s.fifth ∷ s.sixth ∷ s.seventh ∷ s.eighth ∷ [] in
-        AreInOrder fields × AreAlike P.home P.source (copies_in fields) };
+        HaveNoGap fields × AreAlike P.home P.source (copies_in fields) };
 }
 
 impl<P: Payload> Shelf<P> {

@@ -4,7 +4,7 @@ use Rattle.pin_book.specs.declared.write.Change.TheVariants.{Push}
 use Rattle.pin_book.specs.Replay.{front_number}
 use Rattle.pin_core.specs.Step.{stored, claiming}
 use Rattle.pin_table.specs.Table.{plan}
-use Rattle.pin_table.specs.Turns.{version_name, front_name, finding, PushesVersion}
+use Rattle.pin_table.specs.Turns.{payload_name, front_name, finding, PushesVersion}
 use Rattle.pin_table.proofs.PushLemmas.{front_knows, claimed_run, pushed_seat}
 use Rattle.pin_table.proofs.WriteLemmas.{front_fits}
 use Rattle.pin_table.proofs.push_calls.push_by_book.Goals as goal
@@ -21,7 +21,7 @@ returns-then-allowance-eq0-clause-refused g c =
     let how = plan c.args.table.now in let sizes = c.args.table.now.sizes in let least = sizes.some_slots in let v = c.args.seat.now.me.0.core in let front = c.front_in-front.result in
     let knows = front_knows g.P.Payload.home g.P.Payload.name_of how c.args.number v c.args.book.now front (omega arith) c.requires.writes c.front_in-front.ensures in
     let called = c.name.ensures ∙ ap (λ p. g.P.Payload.name_of (g.P.Payload.home p) (g.P.Payload.source p)) c.version.ensures in
-    let other : version_name g.P.Payload.home g.P.Payload.source g.P.Payload.name_of c.args.copies.version ≢ front_name g.P.Payload.home g.P.Payload.source g.P.Payload.name_of how v.seen = λ same. false≢true (sym c.if-is_front_name.false ∙ c.is_front_name.ensures.1 (called ∙ (same ∙ sym knows.2))) in
+    let other : payload_name g.P.Payload.home g.P.Payload.source g.P.Payload.name_of c.args.copies.version ≢ front_name g.P.Payload.home g.P.Payload.source g.P.Payload.name_of how v.seen = λ same. false≢true (sym c.if-is_front_name.false ∙ c.is_front_name.ensures.1 (called ∙ (same ∙ sym knows.2))) in
     record { other = other; no_write = sym c.requires.allowance ∙ c.if-allowance-eq0.true; is_w = knows.0; view = Rattle.std.proofs.Common.refl }
 
 pub overflow_add-next : goal.overflow_add-next
@@ -35,7 +35,7 @@ returns-in_default-clause-refused g c =
     let how = plan c.args.table.now in let sizes = c.args.table.now.sizes in let least = sizes.some_slots in let v = c.args.seat.now.me.0.core in let front = c.front_in-front.result in
     let knows = front_knows g.P.Payload.home g.P.Payload.name_of how c.args.number v c.args.book.now front (omega arith) c.requires.writes c.front_in-front.ensures in
     let called = c.name.ensures ∙ ap (λ p. g.P.Payload.name_of (g.P.Payload.home p) (g.P.Payload.source p)) c.version.ensures in
-    let other : version_name g.P.Payload.home g.P.Payload.source g.P.Payload.name_of c.args.copies.version ≢ front_name g.P.Payload.home g.P.Payload.source g.P.Payload.name_of how v.seen = λ same. false≢true (sym c.if-is_front_name.false ∙ c.is_front_name.ensures.1 (called ∙ (same ∙ sym knows.2))) in
+    let other : payload_name g.P.Payload.home g.P.Payload.source g.P.Payload.name_of c.args.copies.version ≢ front_name g.P.Payload.home g.P.Payload.source g.P.Payload.name_of how v.seen = λ same. false≢true (sym c.if-is_front_name.false ∙ c.is_front_name.ensures.1 (called ∙ (same ∙ sym knows.2))) in
     let allowance = c.requires.allowance in let some_write = c.if-allowance-eq0.false in let full = c.in_default.ensures.full in
     record { other = other; some_write = omega arith; pinned = full.pinned; is_w = knows.0; view = ap (λ m. m.0.core) full.seat }
 
@@ -50,7 +50,7 @@ returns-clause-pushed g c =
     let how = plan c.args.table.now in let sizes = c.args.table.now.sizes in let least = sizes.some_slots in let v = c.args.seat.now.me.0.core in let front = c.front_in-front.result in
     let knows = front_knows g.P.Payload.home g.P.Payload.name_of how c.args.number v c.args.book.now front (omega arith) c.requires.writes c.front_in-front.ensures in
     let called = c.name.ensures ∙ ap (λ p. g.P.Payload.name_of (g.P.Payload.home p) (g.P.Payload.source p)) c.version.ensures in
-    let other : version_name g.P.Payload.home g.P.Payload.source g.P.Payload.name_of c.args.copies.version ≢ front_name g.P.Payload.home g.P.Payload.source g.P.Payload.name_of how v.seen = λ same. false≢true (sym c.if-is_front_name.false ∙ c.is_front_name.ensures.1 (called ∙ (same ∙ sym knows.2))) in
+    let other : payload_name g.P.Payload.home g.P.Payload.source g.P.Payload.name_of c.args.copies.version ≢ front_name g.P.Payload.home g.P.Payload.source g.P.Payload.name_of how v.seen = λ same. false≢true (sym c.if-is_front_name.false ∙ c.is_front_name.ensures.1 (called ∙ (same ∙ sym knows.2))) in
     let allowance = c.requires.allowance in let some_write = c.if-allowance-eq0.false in let claim = c.in-Some.ensures.claimed in let slot = c.in-Some.slot in
     let core = ap (λ m. m.0.core) claim.seat in let answer = c.push_into.ensures.pushed in
     let n = ap (λ p. p.n) answer ∙ ap (λ u. front_number how.slots u.seen + 1) core in let at = ap (λ p. p.slot) answer in record {
