@@ -2,6 +2,10 @@
 #![tactic(auto)]
 
 #[cfg(test)]
+mod gated;
+#[cfg(test)]
 mod openings;
 #[cfg(test)]
 mod record;
+#[cfg(test)]
+mod threads;
