@@ -10,7 +10,8 @@ use Rattle.tz_script.specs.declared.operation.Pick.{Pick}
 use Rattle.pin_book.specs.declared.limits.TheConstants.{MOST_SLOTS}
 use Rattle.tz_batch.specs.OutcomeText.{version_text, of_several, refusal_text, answer_text}
 use Rattle.tz_batch.specs.Fitting.{FitsWord, FitsAnswer}
-use Rattle.tz_batch.specs.Batch.{Batch, Answered, list_at, row_of}
+use Rattle.tz_batch.specs.Batch.{Answered, row_of}
+use Rattle.tz_batch.specs.Round.{Round, list_at}
 use Rattle.tz_batch.specs.Answering.{AnswersLook, AnswersHold, AnswersDrop, AnswersReload, AnswersErase, AnswersList}
 use Rattle.tz_batch.specs.declared.answer.Answer.{Answer}
 use Rattle.tz_batch.specs.declared.answer.Answer.TheVariants as answers
@@ -110,7 +111,7 @@ listing_same x y one two = λ i. record {
 }
 
 -- a reply to `look` is settled by its text
-pub look_settled : (p q : Batch) (w v : ℕ) (x y : Answer) → AnswersLook p w x → AnswersLook q v y → FitsAnswer x → FitsAnswer y
+pub look_settled : (p q : Round) (w v : ℕ) (x y : Answer) → AnswersLook p w x → AnswersLook q v y → FitsAnswer x → FitsAnswer y
     → answer_text x ≡ answer_text y → x ≡ y
 look_settled p q w v (answers.Front n slot) (answers.Front m place) h k fits_x fits_y e = told_by_word answers.Front (codes "front ") n slot m place fits_x fits_y e
 look_settled p q w v (answers.Front n slot) (answers.Held m place) h k fits_x fits_y e = absurd k
@@ -137,7 +138,7 @@ look_settled p q w v (answers.Listed listing) y h k fits_x fits_y e = absurd h
 look_settled p q w v (answers.On n slot what) y h k fits_x fits_y e = absurd h
 
 -- a reply to `hold` is settled by its text
-pub hold_settled : (p q : Batch) (w v : ℕ) (x y : Answer) → AnswersHold p w x → AnswersHold q v y → FitsAnswer x → FitsAnswer y
+pub hold_settled : (p q : Round) (w v : ℕ) (x y : Answer) → AnswersHold p w x → AnswersHold q v y → FitsAnswer x → FitsAnswer y
     → answer_text x ≡ answer_text y → x ≡ y
 hold_settled p q w v (answers.Front n slot) y h k fits_x fits_y e = absurd h
 hold_settled p q w v (answers.Held n slot) (answers.Front m place) h k fits_x fits_y e = absurd k
@@ -164,7 +165,7 @@ hold_settled p q w v (answers.Listed listing) y h k fits_x fits_y e = absurd h
 hold_settled p q w v (answers.On n slot what) y h k fits_x fits_y e = absurd h
 
 -- a reply to `drop` is settled by its text
-pub drop_settled : (p q : Batch) (before : List Answered) (here there : Answered) (name : List ℕ) (x y : Answer) → AnswersDrop p before here name x → AnswersDrop q before there name y → FitsAnswer x → FitsAnswer y
+pub drop_settled : (p q : Round) (before : List Answered) (here there : Answered) (name : List ℕ) (x y : Answer) → AnswersDrop p before here name x → AnswersDrop q before there name y → FitsAnswer x → FitsAnswer y
     → answer_text x ≡ answer_text y → x ≡ y
 drop_settled p q before here there name (answers.Front n slot) y h k fits_x fits_y e = absurd h
 drop_settled p q before here there name (answers.Held n slot) y h k fits_x fits_y e = absurd h
@@ -191,68 +192,68 @@ drop_settled p q before here there name (answers.Listed listing) y h k fits_x fi
 drop_settled p q before here there name (answers.On n slot what) y h k fits_x fits_y e = absurd h
 
 -- a reply to `reload` is settled by its text
-pub reload_settled : (p q : Batch) (before : List Answered) (here there : Answered) (src w v : ℕ) (x y : Answer) → AnswersReload p before here src w x → AnswersReload q before there src v y → FitsAnswer x → FitsAnswer y
+pub reload_settled : (p q : Round) (src w v : ℕ) (x y : Answer) → AnswersReload p src w x → AnswersReload q src v y → FitsAnswer x → FitsAnswer y
     → answer_text x ≡ answer_text y → x ≡ y
 unfolding refusal_text
-reload_settled p q before here there src w v (answers.Front n slot) y h k fits_x fits_y e = absurd h
-reload_settled p q before here there src w v (answers.Held n slot) y h k fits_x fits_y e = absurd h
-reload_settled p q before here there src w v (answers.Dropped n slot) y h k fits_x fits_y e = absurd h
-reload_settled p q before here there src w v (answers.Pushed n slot) (answers.Front m place) h k fits_x fits_y e = absurd k
-reload_settled p q before here there src w v (answers.Pushed n slot) (answers.Held m place) h k fits_x fits_y e = absurd k
-reload_settled p q before here there src w v (answers.Pushed n slot) (answers.Dropped m place) h k fits_x fits_y e = absurd k
-reload_settled p q before here there src w v (answers.Pushed n slot) (answers.Pushed m place) h k fits_x fits_y e = told_by_word answers.Pushed (codes "pushed ") n slot m place fits_x fits_y e
-reload_settled p q before here there src w v (answers.Pushed n slot) (answers.Same m) h k fits_x fits_y e = absurd (apart 115 112 (omega arith) (sym (ap first_byte e)))
-reload_settled p q before here there src w v (answers.Pushed n slot) answers.Full h k fits_x fits_y e = absurd (apart 112 102 (omega arith) (ap first_byte e))
-reload_settled p q before here there src w v (answers.Pushed n slot) (answers.Refused other_file other_line other_cause) h k fits_x fits_y e = absurd (apart 114 112 (omega arith) (sym (ap first_byte e)))
-reload_settled p q before here there src w v (answers.Pushed n slot) (answers.Erased m place lost) h k fits_x fits_y e = absurd k
-reload_settled p q before here there src w v (answers.Pushed n slot) (answers.Nothing m place) h k fits_x fits_y e = absurd k
-reload_settled p q before here there src w v (answers.Pushed n slot) (answers.NotListed m place) h k fits_x fits_y e = absurd k
-reload_settled p q before here there src w v (answers.Pushed n slot) (answers.Listed other) h k fits_x fits_y e = absurd k
-reload_settled p q before here there src w v (answers.Pushed n slot) (answers.On m place that) h k fits_x fits_y e = absurd k
-reload_settled p q before here there src w v (answers.Same n) (answers.Front m place) h k fits_x fits_y e = absurd k
-reload_settled p q before here there src w v (answers.Same n) (answers.Held m place) h k fits_x fits_y e = absurd k
-reload_settled p q before here there src w v (answers.Same n) (answers.Dropped m place) h k fits_x fits_y e = absurd k
-reload_settled p q before here there src w v (answers.Same n) (answers.Pushed m place) h k fits_x fits_y e = absurd (apart 115 112 (omega arith) (ap first_byte e))
-reload_settled p q before here there src w v (answers.Same n) (answers.Same m) h k fits_x fits_y e = ap answers.Same (decimal_injective n m (wider n fits_x) (wider m fits_y) (append_cancel_left (codes "same ") (decimal n) (decimal m) e))
-reload_settled p q before here there src w v (answers.Same n) answers.Full h k fits_x fits_y e = absurd (apart 115 102 (omega arith) (ap first_byte e))
-reload_settled p q before here there src w v (answers.Same n) (answers.Refused other_file other_line other_cause) h k fits_x fits_y e = absurd (apart 115 114 (omega arith) (ap first_byte e))
-reload_settled p q before here there src w v (answers.Same n) (answers.Erased m place lost) h k fits_x fits_y e = absurd k
-reload_settled p q before here there src w v (answers.Same n) (answers.Nothing m place) h k fits_x fits_y e = absurd k
-reload_settled p q before here there src w v (answers.Same n) (answers.NotListed m place) h k fits_x fits_y e = absurd k
-reload_settled p q before here there src w v (answers.Same n) (answers.Listed other) h k fits_x fits_y e = absurd k
-reload_settled p q before here there src w v (answers.Same n) (answers.On m place that) h k fits_x fits_y e = absurd k
-reload_settled p q before here there src w v answers.Full (answers.Front m place) h k fits_x fits_y e = absurd k
-reload_settled p q before here there src w v answers.Full (answers.Held m place) h k fits_x fits_y e = absurd k
-reload_settled p q before here there src w v answers.Full (answers.Dropped m place) h k fits_x fits_y e = absurd k
-reload_settled p q before here there src w v answers.Full (answers.Pushed m place) h k fits_x fits_y e = absurd (apart 112 102 (omega arith) (sym (ap first_byte e)))
-reload_settled p q before here there src w v answers.Full (answers.Same m) h k fits_x fits_y e = absurd (apart 115 102 (omega arith) (sym (ap first_byte e)))
-reload_settled p q before here there src w v answers.Full answers.Full h k fits_x fits_y e = refl
-reload_settled p q before here there src w v answers.Full (answers.Refused other_file other_line other_cause) h k fits_x fits_y e = absurd (apart 114 102 (omega arith) (sym (ap first_byte e)))
-reload_settled p q before here there src w v answers.Full (answers.Erased m place lost) h k fits_x fits_y e = absurd k
-reload_settled p q before here there src w v answers.Full (answers.Nothing m place) h k fits_x fits_y e = absurd k
-reload_settled p q before here there src w v answers.Full (answers.NotListed m place) h k fits_x fits_y e = absurd k
-reload_settled p q before here there src w v answers.Full (answers.Listed other) h k fits_x fits_y e = absurd k
-reload_settled p q before here there src w v answers.Full (answers.On m place that) h k fits_x fits_y e = absurd k
-reload_settled p q before here there src w v (answers.Refused file line cause) (answers.Front m place) h k fits_x fits_y e = absurd k
-reload_settled p q before here there src w v (answers.Refused file line cause) (answers.Held m place) h k fits_x fits_y e = absurd k
-reload_settled p q before here there src w v (answers.Refused file line cause) (answers.Dropped m place) h k fits_x fits_y e = absurd k
-reload_settled p q before here there src w v (answers.Refused file line cause) (answers.Pushed m place) h k fits_x fits_y e = absurd (apart 114 112 (omega arith) (ap first_byte e))
-reload_settled p q before here there src w v (answers.Refused file line cause) (answers.Same m) h k fits_x fits_y e = absurd (apart 115 114 (omega arith) (sym (ap first_byte e)))
-reload_settled p q before here there src w v (answers.Refused file line cause) answers.Full h k fits_x fits_y e = absurd (apart 114 102 (omega arith) (ap first_byte e))
-reload_settled p q before here there src w v (answers.Refused file line cause) (answers.Refused other_file other_line other_cause) h k fits_x fits_y e = refusal_settled file line cause other_file other_line other_cause fits_x.0 fits_x.1 fits_x.2 fits_y.0 fits_y.1 fits_y.2 e
-reload_settled p q before here there src w v (answers.Refused file line cause) (answers.Erased m place lost) h k fits_x fits_y e = absurd k
-reload_settled p q before here there src w v (answers.Refused file line cause) (answers.Nothing m place) h k fits_x fits_y e = absurd k
-reload_settled p q before here there src w v (answers.Refused file line cause) (answers.NotListed m place) h k fits_x fits_y e = absurd k
-reload_settled p q before here there src w v (answers.Refused file line cause) (answers.Listed other) h k fits_x fits_y e = absurd k
-reload_settled p q before here there src w v (answers.Refused file line cause) (answers.On m place that) h k fits_x fits_y e = absurd k
-reload_settled p q before here there src w v (answers.Erased n slot gone) y h k fits_x fits_y e = absurd h
-reload_settled p q before here there src w v (answers.Nothing n slot) y h k fits_x fits_y e = absurd h
-reload_settled p q before here there src w v (answers.NotListed n slot) y h k fits_x fits_y e = absurd h
-reload_settled p q before here there src w v (answers.Listed listing) y h k fits_x fits_y e = absurd h
-reload_settled p q before here there src w v (answers.On n slot what) y h k fits_x fits_y e = absurd h
+reload_settled p q src w v (answers.Front n slot) y h k fits_x fits_y e = absurd h
+reload_settled p q src w v (answers.Held n slot) y h k fits_x fits_y e = absurd h
+reload_settled p q src w v (answers.Dropped n slot) y h k fits_x fits_y e = absurd h
+reload_settled p q src w v (answers.Pushed n slot) (answers.Front m place) h k fits_x fits_y e = absurd k
+reload_settled p q src w v (answers.Pushed n slot) (answers.Held m place) h k fits_x fits_y e = absurd k
+reload_settled p q src w v (answers.Pushed n slot) (answers.Dropped m place) h k fits_x fits_y e = absurd k
+reload_settled p q src w v (answers.Pushed n slot) (answers.Pushed m place) h k fits_x fits_y e = told_by_word answers.Pushed (codes "pushed ") n slot m place fits_x fits_y e
+reload_settled p q src w v (answers.Pushed n slot) (answers.Same m) h k fits_x fits_y e = absurd (apart 115 112 (omega arith) (sym (ap first_byte e)))
+reload_settled p q src w v (answers.Pushed n slot) answers.Full h k fits_x fits_y e = absurd (apart 112 102 (omega arith) (ap first_byte e))
+reload_settled p q src w v (answers.Pushed n slot) (answers.Refused other_file other_line other_cause) h k fits_x fits_y e = absurd (apart 114 112 (omega arith) (sym (ap first_byte e)))
+reload_settled p q src w v (answers.Pushed n slot) (answers.Erased m place lost) h k fits_x fits_y e = absurd k
+reload_settled p q src w v (answers.Pushed n slot) (answers.Nothing m place) h k fits_x fits_y e = absurd k
+reload_settled p q src w v (answers.Pushed n slot) (answers.NotListed m place) h k fits_x fits_y e = absurd k
+reload_settled p q src w v (answers.Pushed n slot) (answers.Listed other) h k fits_x fits_y e = absurd k
+reload_settled p q src w v (answers.Pushed n slot) (answers.On m place that) h k fits_x fits_y e = absurd k
+reload_settled p q src w v (answers.Same n) (answers.Front m place) h k fits_x fits_y e = absurd k
+reload_settled p q src w v (answers.Same n) (answers.Held m place) h k fits_x fits_y e = absurd k
+reload_settled p q src w v (answers.Same n) (answers.Dropped m place) h k fits_x fits_y e = absurd k
+reload_settled p q src w v (answers.Same n) (answers.Pushed m place) h k fits_x fits_y e = absurd (apart 115 112 (omega arith) (ap first_byte e))
+reload_settled p q src w v (answers.Same n) (answers.Same m) h k fits_x fits_y e = ap answers.Same (decimal_injective n m (wider n fits_x) (wider m fits_y) (append_cancel_left (codes "same ") (decimal n) (decimal m) e))
+reload_settled p q src w v (answers.Same n) answers.Full h k fits_x fits_y e = absurd (apart 115 102 (omega arith) (ap first_byte e))
+reload_settled p q src w v (answers.Same n) (answers.Refused other_file other_line other_cause) h k fits_x fits_y e = absurd (apart 115 114 (omega arith) (ap first_byte e))
+reload_settled p q src w v (answers.Same n) (answers.Erased m place lost) h k fits_x fits_y e = absurd k
+reload_settled p q src w v (answers.Same n) (answers.Nothing m place) h k fits_x fits_y e = absurd k
+reload_settled p q src w v (answers.Same n) (answers.NotListed m place) h k fits_x fits_y e = absurd k
+reload_settled p q src w v (answers.Same n) (answers.Listed other) h k fits_x fits_y e = absurd k
+reload_settled p q src w v (answers.Same n) (answers.On m place that) h k fits_x fits_y e = absurd k
+reload_settled p q src w v answers.Full (answers.Front m place) h k fits_x fits_y e = absurd k
+reload_settled p q src w v answers.Full (answers.Held m place) h k fits_x fits_y e = absurd k
+reload_settled p q src w v answers.Full (answers.Dropped m place) h k fits_x fits_y e = absurd k
+reload_settled p q src w v answers.Full (answers.Pushed m place) h k fits_x fits_y e = absurd (apart 112 102 (omega arith) (sym (ap first_byte e)))
+reload_settled p q src w v answers.Full (answers.Same m) h k fits_x fits_y e = absurd (apart 115 102 (omega arith) (sym (ap first_byte e)))
+reload_settled p q src w v answers.Full answers.Full h k fits_x fits_y e = refl
+reload_settled p q src w v answers.Full (answers.Refused other_file other_line other_cause) h k fits_x fits_y e = absurd (apart 114 102 (omega arith) (sym (ap first_byte e)))
+reload_settled p q src w v answers.Full (answers.Erased m place lost) h k fits_x fits_y e = absurd k
+reload_settled p q src w v answers.Full (answers.Nothing m place) h k fits_x fits_y e = absurd k
+reload_settled p q src w v answers.Full (answers.NotListed m place) h k fits_x fits_y e = absurd k
+reload_settled p q src w v answers.Full (answers.Listed other) h k fits_x fits_y e = absurd k
+reload_settled p q src w v answers.Full (answers.On m place that) h k fits_x fits_y e = absurd k
+reload_settled p q src w v (answers.Refused file line cause) (answers.Front m place) h k fits_x fits_y e = absurd k
+reload_settled p q src w v (answers.Refused file line cause) (answers.Held m place) h k fits_x fits_y e = absurd k
+reload_settled p q src w v (answers.Refused file line cause) (answers.Dropped m place) h k fits_x fits_y e = absurd k
+reload_settled p q src w v (answers.Refused file line cause) (answers.Pushed m place) h k fits_x fits_y e = absurd (apart 114 112 (omega arith) (ap first_byte e))
+reload_settled p q src w v (answers.Refused file line cause) (answers.Same m) h k fits_x fits_y e = absurd (apart 115 114 (omega arith) (sym (ap first_byte e)))
+reload_settled p q src w v (answers.Refused file line cause) answers.Full h k fits_x fits_y e = absurd (apart 114 102 (omega arith) (ap first_byte e))
+reload_settled p q src w v (answers.Refused file line cause) (answers.Refused other_file other_line other_cause) h k fits_x fits_y e = refusal_settled file line cause other_file other_line other_cause fits_x.0 fits_x.1 fits_x.2 fits_y.0 fits_y.1 fits_y.2 e
+reload_settled p q src w v (answers.Refused file line cause) (answers.Erased m place lost) h k fits_x fits_y e = absurd k
+reload_settled p q src w v (answers.Refused file line cause) (answers.Nothing m place) h k fits_x fits_y e = absurd k
+reload_settled p q src w v (answers.Refused file line cause) (answers.NotListed m place) h k fits_x fits_y e = absurd k
+reload_settled p q src w v (answers.Refused file line cause) (answers.Listed other) h k fits_x fits_y e = absurd k
+reload_settled p q src w v (answers.Refused file line cause) (answers.On m place that) h k fits_x fits_y e = absurd k
+reload_settled p q src w v (answers.Erased n slot gone) y h k fits_x fits_y e = absurd h
+reload_settled p q src w v (answers.Nothing n slot) y h k fits_x fits_y e = absurd h
+reload_settled p q src w v (answers.NotListed n slot) y h k fits_x fits_y e = absurd h
+reload_settled p q src w v (answers.Listed listing) y h k fits_x fits_y e = absurd h
+reload_settled p q src w v (answers.On n slot what) y h k fits_x fits_y e = absurd h
 
 -- a reply to `erase` is settled by its text
-pub erase_settled : (p q : Batch) (before : List Answered) (here there : Answered) (pick : Pick) (w v : ℕ) (x y : Answer) → AnswersErase p before here pick w x → AnswersErase q before there pick v y → FitsAnswer x → FitsAnswer y
+pub erase_settled : (p q : Round) (before : List Answered) (here there : Answered) (pick : Pick) (w v : ℕ) (x y : Answer) → AnswersErase p before here pick w x → AnswersErase q before there pick v y → FitsAnswer x → FitsAnswer y
     → answer_text x ≡ answer_text y → x ≡ y
 erase_settled p q before here there pick w v (answers.Front n slot) y h k fits_x fits_y e = absurd h
 erase_settled p q before here there pick w v (answers.Held n slot) y h k fits_x fits_y e = absurd h
@@ -301,7 +302,7 @@ erase_settled p q before here there pick w v (answers.Listed listing) y h k fits
 erase_settled p q before here there pick w v (answers.On n slot what) y h k fits_x fits_y e = absurd h
 
 -- a reply to `list` is settled by the list at its position
-pub list_settled : (p q : Batch) (w v : ℕ) (x y : Answer) → AnswersList p w x → AnswersList q v y → w ≡ v
+pub list_settled : (p q : Round) (w v : ℕ) (x y : Answer) → AnswersList p w x → AnswersList q v y → w ≡ v
     → map (row_of p.sources) (list_at p w).listed ≡ map (row_of q.sources) (list_at q v).listed → x ≡ y
 list_settled p q w v (answers.Front n slot) y h k met same = absurd h
 list_settled p q w v (answers.Held n slot) y h k met same = absurd h

@@ -5,9 +5,10 @@ use Rattle.std.specs.List.{cons_option}
 use Rattle.tz_script.specs.declared.operation.Operation.{Operation}
 use Rattle.tz_script.specs.declared.script.Script.{Script}
 use Rattle.tz_version.specs.declared.sources.Sources.{Sources}
-use Rattle.tz_batch.specs.Batch.{Batch, Answered, each_answered, answered, list_at, start_of, is_write_before}
+use Rattle.tz_batch.specs.Batch.{Batch, Answered, each_answered, answered, start_of, is_write_before}
+use Rattle.tz_batch.specs.Round.{Round, round_of, list_at}
 use Rattle.tz_batch.specs.Answering.{IsRightReply}
-use Rattle.tz_batch.specs.Run.{EachInTurn, InSlot, PlacedChange, change_told_in, changes_told, HasPosition, PassesOver, versions_told, IsRun}
+use Rattle.tz_batch.specs.Run.{EachInTurn, InSlot, PlacedChange, change_told_in, changes_told, HasPosition, SlotsKeep, PassesOver, IsRun}
 use Rattle.tz_batch.specs.FirstLook.{lone_look, first_front, first_outcome}
 
 abbrev batch_of : Script → Sources → ℕ → ℕ → Batch
@@ -56,11 +57,11 @@ module _ (script : Script) (sources : Sources) (slots line : ℕ) (asks : script
   answered_is : answered (batch_of script sources slots line) ≡ looked line ∷ []
   answered_is = ap (λ operations. each_answered operations (first_outcome line).replies) asks
 
-  in_turn : (fact : List Answered → Answered → Type 0) → fact [] (looked line) → EachInTurn (batch_of script sources slots line) fact
+  in_turn : (fact : Round → List Answered → Answered → Type 0) → fact (round_of (batch_of script sources slots line) 1) [] (looked line) → EachInTurn (batch_of script sources slots line) fact
   in_turn fact h before later here e =
       let only = alone (looked line) here before later (sym answered_is ∙ e) in
-      let P : Answered → Type 0 = fact before in
-      let Q : List Answered → Type 0 = λ those. fact those (looked line) in
+      let P : Answered → Type 0 = λ it. fact (round_of (batch_of script sources slots line) it.operation.round) before it in
+      let Q : List Answered → Type 0 = λ those. fact (round_of (batch_of script sources slots line) 1) those (looked line) in
       subst P (sym only.1) (subst Q (sym only.0) h)
 
   nothing_told : (lane : ℕ) → changes_told (batch_of script sources slots line) lane ≡ []
@@ -70,14 +71,8 @@ module _ (script : Script) (sources : Sources) (slots line : ℕ) (asks : script
   starts : (round : ℕ) → start_of (batch_of script sources slots line) round ≡ count_by (is_write_before round) (looked line ∷ [])
   starts round = ap (count_by (is_write_before round)) answered_is
 
-  kept : (here : Answered) (told : InSlot) → Contains (answered (batch_of script sources slots line)) here → Contains (versions_told here.reply.answer) told
-      → slice_get (list_at (batch_of script sources slots line) here.reply.w).kept told.slot ≡ Some told.n
-  kept here told is_one is_told =
-      let P : List Answered → Type 0 = λ those. Contains those here in
-      let one : here ≡ looked line = only_one (looked line) here (subst P answered_is is_one) in
-      let Q : Answered → Type 0 = λ it. Contains (versions_told it.reply.answer) told in
-      let first : told ≡ record { n = 1; slot = 0 } = only_version (record { n = 1; slot = 0 }) told (subst Q one is_told) in
-      rw (one, first) (kept_first slots some)
+  kept : SlotsKeep (round_of (batch_of script sources slots line) 1) [] (looked line)
+  kept told is_told = rw (only_version (record { n = 1; slot = 0 }) told is_told) (kept_first slots some)
 
   pub first_run : IsRun script sources slots (first_outcome line)
   first_run = record {
@@ -89,12 +84,12 @@ module _ (script : Script) (sources : Sources) (slots line : ℕ) (asks : script
     };
     replies = record {
       one_each = sym (ap (map (λ (operation : Operation). operation.line)) asks);
-      right = in_turn (IsRightReply (batch_of script sources slots line)) (refl, refl);
+      right = in_turn IsRightReply (refl, refl);
     };
-    positions = in_turn (HasPosition (batch_of script sources slots line)) (record {
+    positions = in_turn HasPosition (record {
       low = omega (arith, starts 1);
       high = omega arith;
     });
-    slots = kept;
-    pushes = in_turn (PassesOver (batch_of script sources slots line)) tt;
+    slots = in_turn SlotsKeep kept;
+    pushes = in_turn PassesOver tt;
   }

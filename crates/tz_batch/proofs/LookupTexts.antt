@@ -5,7 +5,8 @@ use Rattle.tz_script.specs.declared.operation.Pick.{Pick}
 use Rattle.pin_book.specs.Replay.{Edition}
 use Rattle.tz_batch.specs.OutcomeText.{version_text, found_text, answer_text}
 use Rattle.tz_batch.specs.Fitting.{FitsAnswer}
-use Rattle.tz_batch.specs.Batch.{Batch, Answered}
+use Rattle.tz_batch.specs.Batch.{Answered}
+use Rattle.tz_batch.specs.Round.{Round}
 use Rattle.tz_batch.specs.Held.{LooksInto}
 use Rattle.tz_batch.specs.Answering.{AnswersLookup}
 use Rattle.tz_batch.specs.declared.answer.Answer.{Answer}
@@ -20,7 +21,7 @@ on_is_laid : (n slot : ℕ) (x : List ℕ) → version_text n slot ++ codes " " 
 on_is_laid n slot x = append_assoc (version_text n slot) (codes " ") x
 
 -- two versions that operations look into and that have one number come from one source
-abbrev pub IsLookedOnce : Batch → Batch → List Answered → Answered → Answered → Pick → Type 0
+abbrev pub IsLookedOnce : Round → Round → List Answered → Answered → Answered → Pick → Type 0
 IsLookedOnce p q before here there pick =
     (e o : Edition) → LooksInto p before here pick e → LooksInto q before there pick o → e.n ≡ o.n → e.src ≡ o.src
 
@@ -29,7 +30,7 @@ abbrev pub IsFoundOnce : (Edition → Found → Type 0) → Type 0
 IsFoundOnce finds = (e o : Edition) (f g : Found) → e.src ≡ o.src → finds e f → finds o g → f ≡ g
 
 -- a reply to a lookup is settled by its text
-pub lookup_settled : (p q : Batch) (before : List Answered) (here there : Answered) (pick : Pick) (finds : Edition → Found → Type 0) (x y : Answer)
+pub lookup_settled : (p q : Round) (before : List Answered) (here there : Answered) (pick : Pick) (finds : Edition → Found → Type 0) (x y : Answer)
     → IsLookedOnce p q before here there pick → IsFoundOnce finds
     → AnswersLookup p before here pick finds x → AnswersLookup q before there pick finds y → FitsAnswer x → FitsAnswer y
     → answer_text x ≡ answer_text y → x ≡ y

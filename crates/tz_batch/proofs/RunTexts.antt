@@ -14,6 +14,7 @@ use Rattle.pin_book.specs.declared.write.Write.{Write}
 use Rattle.tz_batch.specs.OutcomeText.{answer_text, outcome_text}
 use Rattle.tz_batch.specs.Fitting.{FitsAnswer, FitsReply, FitsOutcome, ReplyTold, reply_told}
 use Rattle.tz_batch.specs.Batch.{Batch, Answered, each_answered, answered, row_of}
+use Rattle.tz_batch.specs.Round.{Round, round_of}
 use Rattle.tz_expand.specs.declared.compiled_zone.CompiledZone.{CompiledZone}
 use Rattle.tz_batch.specs.Finding.{FindsInfo, FindsLocal, FindsSys, FindsScan, FindsInZone, FindsByClock}
 use Rattle.tz_batch.specs.Held.{LooksInto}
@@ -41,58 +42,64 @@ abbrev answered_of : Operation → Reply → Answered
 answered_of operation reply = record { operation = operation; reply = reply }
 
 module _ (script : Script) (sources : Sources) (slots : ℕ) (a b : Outcome) (journals : a.journal ≡ b.journal) (replay : replays slots a.journal ≡ true) where
+  abbrev round_a : ℕ → Round
+  round_a n = round_of (batch_of script sources slots a) n
+
+  abbrev round_b : ℕ → Round
+  round_b n = round_of (batch_of script sources slots b) n
+
   -- versions with one number that operations at one position look into come from one source
-  looked_once : (before : List Answered) (here there : Answered) (pick : Pick) (e o : Edition) → here.reply.w ≡ there.reply.w
-      → LooksInto (batch_of script sources slots a) before here pick e → LooksInto (batch_of script sources slots b) before there pick o
+  looked_once : (n : ℕ) (before : List Answered) (here there : Answered) (pick : Pick) (e o : Edition) → here.reply.w ≡ there.reply.w
+      → LooksInto (round_a n) before here pick e → LooksInto (round_b n) before there pick o
       → e.n ≡ o.n → e.src ≡ o.src
-  looked_once before here there Front e o place h k number =
+  looked_once n before here there Front e o place h k number =
       ap (λ (it : Edition). it.src) (h ∙ (λ i. front_of (state_after slots (take (place i) (journals i))).listed) ∙ sym k)
-  looked_once before here there (Held name) e o place h k number =
+  looked_once n before here there (Held name) e o place h k number =
       let version : o ≡ front_of (state_after slots (take k.begun.reply.w a.journal)).listed = k.version ∙ ap (λ (writes : List Write). front_of (state_after slots (take k.begun.reply.w writes)).listed) (sym journals) in
       let fronts = front_by_number slots a.journal h.begun.reply.w k.begun.reply.w replay (ap (λ (it : Edition). it.n) (sym h.version) ∙ number ∙ ap (λ (it : Edition). it.n) version) in
       ap (λ (it : Edition). it.src) (h.version ∙ fronts ∙ sym version)
 
   -- answers to a lookup in a zone are settled by their text, where the zone settles what is found there
-  zone_settled : (before : List Answered) (here there : Answered) (pick : Pick) (zone : List ℕ) (finds : CompiledZone → Found → Type 0) (x y : Answer)
+  zone_settled : (n : ℕ) (before : List Answered) (here there : Answered) (pick : Pick) (zone : List ℕ) (finds : CompiledZone → Found → Type 0) (x y : Answer)
       → ((compiled : CompiledZone) (f g : Found) → finds compiled f → finds compiled g → f ≡ g) → here.reply.w ≡ there.reply.w
-      → AnswersInZone (batch_of script sources slots a) before here pick zone finds x
-      → AnswersInZone (batch_of script sources slots b) before there pick zone finds y
+      → AnswersInZone (round_a n) before here pick zone finds x
+      → AnswersInZone (round_b n) before there pick zone finds y
       → FitsAnswer x → FitsAnswer y → answer_text x ≡ answer_text y → x ≡ y
-  zone_settled before here there pick zone finds x y once place h k fits_x fits_y e =
-      lookup_settled (batch_of script sources slots a) (batch_of script sources slots b) before here there pick (λ edition. FindsInZone sources edition.src zone finds) x y
-      (λ (p q : Edition) looked also number. looked_once before here there pick p q place looked also number)
+  zone_settled n before here there pick zone finds x y once place h k fits_x fits_y e =
+      lookup_settled (round_a n) (round_b n) before here there pick (λ edition. FindsInZone sources edition.src zone finds) x y
+      (λ (p q : Edition) looked also number. looked_once n before here there pick p q place looked also number)
       (λ (p q : Edition) (f g : Found) same one two. in_zone_settled sources p.src q.src zone finds f g once same one two) h k fits_x fits_y e
 
   -- the answers to an operation are settled by their text and their position
   answer_settled : (before : List Answered) (line round lane : ℕ) (op : Op) (x y : Reply) → x.w ≡ y.w
       → FitsAnswer x.answer → FitsAnswer y.answer → answer_text x.answer ≡ answer_text y.answer
-      → IsRightReply (batch_of script sources slots a) before (answered_of (operation_of line round lane op) x)
-      → IsRightReply (batch_of script sources slots b) before (answered_of (operation_of line round lane op) y)
+      → IsRightReply (round_a round) before (answered_of (operation_of line round lane op) x)
+      → IsRightReply (round_b round) before (answered_of (operation_of line round lane op) y)
       → x.answer ≡ y.answer
   answer_settled before line round lane ops.Look x y place fits_x fits_y e h k =
-      look_settled (batch_of script sources slots a) (batch_of script sources slots b) x.w y.w x.answer y.answer h k fits_x fits_y e
+      look_settled (round_a round) (round_b round) x.w y.w x.answer y.answer h k fits_x fits_y e
   answer_settled before line round lane (ops.Hold name) x y place fits_x fits_y e h k =
-      hold_settled (batch_of script sources slots a) (batch_of script sources slots b) x.w y.w x.answer y.answer h k fits_x fits_y e
+      hold_settled (round_a round) (round_b round) x.w y.w x.answer y.answer h k fits_x fits_y e
   answer_settled before line round lane (ops.Drop name) x y place fits_x fits_y e h k =
-      drop_settled (batch_of script sources slots a) (batch_of script sources slots b) before (answered_of (operation_of line round lane (ops.Drop name)) x) (answered_of (operation_of line round lane (ops.Drop name)) y) name x.answer y.answer h k fits_x fits_y e
+      drop_settled (round_a round) (round_b round) before (answered_of (operation_of line round lane (ops.Drop name)) x) (answered_of (operation_of line round lane (ops.Drop name)) y) name x.answer y.answer h k fits_x fits_y e
   answer_settled before line round lane (ops.Info v zone t) x y place fits_x fits_y e h k =
-      zone_settled before (answered_of (operation_of line round lane (ops.Info v zone t)) x) (answered_of (operation_of line round lane (ops.Info v zone t)) y) v zone (λ compiled. FindsInfo compiled t) x.answer y.answer (info_once t) place h k fits_x fits_y e
+      zone_settled round before (answered_of (operation_of line round lane (ops.Info v zone t)) x) (answered_of (operation_of line round lane (ops.Info v zone t)) y) v zone (λ compiled. FindsInfo compiled t) x.answer y.answer (info_once t) place h k fits_x fits_y e
   answer_settled before line round lane (ops.Local v zone l) x y place fits_x fits_y e h k =
-      zone_settled before (answered_of (operation_of line round lane (ops.Local v zone l)) x) (answered_of (operation_of line round lane (ops.Local v zone l)) y) v zone (λ compiled. FindsLocal compiled l) x.answer y.answer (local_once l) place h k fits_x fits_y e
+      zone_settled round before (answered_of (operation_of line round lane (ops.Local v zone l)) x) (answered_of (operation_of line round lane (ops.Local v zone l)) y) v zone (λ compiled. FindsLocal compiled l) x.answer y.answer (local_once l) place h k fits_x fits_y e
   answer_settled before line round lane (ops.Sys v zone l choose) x y place fits_x fits_y e h k =
-      zone_settled before (answered_of (operation_of line round lane (ops.Sys v zone l choose)) x) (answered_of (operation_of line round lane (ops.Sys v zone l choose)) y) v zone (λ compiled. FindsSys compiled l choose) x.answer y.answer (sys_once l choose) place h k fits_x fits_y e
+      zone_settled round before (answered_of (operation_of line round lane (ops.Sys v zone l choose)) x) (answered_of (operation_of line round lane (ops.Sys v zone l choose)) y) v zone (λ compiled. FindsSys compiled l choose) x.answer y.answer (sys_once l choose) place h k fits_x fits_y e
   answer_settled before line round lane (ops.Scan v zone from step count) x y place fits_x fits_y e h k =
-      zone_settled before (answered_of (operation_of line round lane (ops.Scan v zone from step count)) x) (answered_of (operation_of line round lane (ops.Scan v zone from step count)) y) v zone (λ compiled. FindsScan compiled from step count) x.answer y.answer (scan_once from step count) place h k fits_x fits_y e
+      zone_settled round before (answered_of (operation_of line round lane (ops.Scan v zone from step count)) x) (answered_of (operation_of line round lane (ops.Scan v zone from step count)) y) v zone (λ compiled. FindsScan compiled from step count) x.answer y.answer (scan_once from step count) place h k fits_x fits_y e
   answer_settled before line round lane (ops.Clock v conv count) x y place fits_x fits_y e h k =
-      lookup_settled (batch_of script sources slots a) (batch_of script sources slots b) before (answered_of (operation_of line round lane (ops.Clock v conv count)) x) (answered_of (operation_of line round lane (ops.Clock v conv count)) y) v (λ edition. FindsByClock sources conv count) x.answer y.answer
-      (λ (p q : Edition) looked also number. looked_once before (answered_of (operation_of line round lane (ops.Clock v conv count)) x) (answered_of (operation_of line round lane (ops.Clock v conv count)) y) v p q place looked also number)
+      lookup_settled (round_a round) (round_b round) before (answered_of (operation_of line round lane (ops.Clock v conv count)) x) (answered_of (operation_of line round lane (ops.Clock v conv count)) y) v (λ edition. FindsByClock sources conv count) x.answer y.answer
+      (λ (p q : Edition) looked also number. looked_once round before (answered_of (operation_of line round lane (ops.Clock v conv count)) x) (answered_of (operation_of line round lane (ops.Clock v conv count)) y) v p q place looked also number)
       (λ (p q : Edition) (f g : Found) same one two. by_clock_once sources conv count f g one two) h k fits_x fits_y e
   answer_settled before line round lane (ops.Reload src) x y place fits_x fits_y e h k =
-      reload_settled (batch_of script sources slots a) (batch_of script sources slots b) before (answered_of (operation_of line round lane (ops.Reload src)) x) (answered_of (operation_of line round lane (ops.Reload src)) y) src x.w y.w x.answer y.answer h k fits_x fits_y e
+      reload_settled (round_a round) (round_b round) src x.w y.w x.answer y.answer h k fits_x fits_y e
   answer_settled before line round lane (ops.Erase v) x y place fits_x fits_y e h k =
-      erase_settled (batch_of script sources slots a) (batch_of script sources slots b) before (answered_of (operation_of line round lane (ops.Erase v)) x) (answered_of (operation_of line round lane (ops.Erase v)) y) v x.w y.w x.answer y.answer h k fits_x fits_y e
+      erase_settled (round_a round) (round_b round) before (answered_of (operation_of line round lane (ops.Erase v)) x) (answered_of (operation_of line round lane (ops.Erase v)) y) v x.w y.w x.answer y.answer h k fits_x fits_y e
   answer_settled before line round lane ops.List x y place fits_x fits_y e h k =
-      list_settled (batch_of script sources slots a) (batch_of script sources slots b) x.w y.w x.answer y.answer h k place
+      list_settled (round_a round) (round_b round) x.w y.w x.answer y.answer h k place
       (ap (λ (writes : List Write). map (row_of sources) (state_after slots (take x.w writes)).listed) journals
       ∙ ap (λ w. map (row_of sources) (state_after slots (take w b.journal)).listed) place)
 
@@ -121,8 +128,8 @@ module _ (script : Script) (sources : Sources) (slots : ℕ) (a b : Outcome) (jo
       → answered (batch_of script sources slots b) ≡ before ++ each_answered operations q
       → map (λ (reply : Reply). reply.line) p ≡ map (λ (operation : Operation). operation.line) operations
       → map reply_told p ≡ map reply_told q → All FitsReply p → All FitsReply q
-      → EachInTurn (batch_of script sources slots a) (IsRightReply (batch_of script sources slots a))
-      → EachInTurn (batch_of script sources slots b) (IsRightReply (batch_of script sources slots b)) → p ≡ q
+      → EachInTurn (batch_of script sources slots a) IsRightReply
+      → EachInTurn (batch_of script sources slots b) IsRightReply → p ≡ q
   replies_same before [] [] [] is_a is_b lines told fits_p fits_q right_a right_b = refl
   replies_same before [] [] (y ∷ q) is_a is_b lines told fits_p fits_q right_a right_b = cc
   replies_same before [] (x ∷ p) q is_a is_b lines told fits_p fits_q right_a right_b = cc

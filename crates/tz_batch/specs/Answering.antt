@@ -12,10 +12,10 @@ use Rattle.tz_version.specs.Refusal.{RefusesLeapText, RefusesSource}
 use Rattle.pin_book.specs.declared.write.Change.{Change}
 use Rattle.pin_book.specs.declared.write.Change.TheVariants.{Push, Erase}
 use Rattle.pin_book.specs.Replay.{Edition, allowed, is_listed, greatest_below}
-use Rattle.tz_batch.specs.Batch.{Batch, Answered, list_at, newest_at, name_of_source, row_of, position_before}
+use Rattle.tz_batch.specs.Batch.{Answered, name_of_source, row_of}
+use Rattle.tz_batch.specs.Round.{Round, list_at, newest_at, position_before}
 use Rattle.tz_batch.specs.Held.{IsHeldAs, LooksInto}
 use Rattle.tz_batch.specs.Finding.{FindsInfo, FindsLocal, FindsSys, FindsScan, FindsInZone, FindsByClock}
-use Rattle.tz_batch.specs.PassedOver.{IsFull}
 use Rattle.tz_batch.specs.declared.answer.Answer.{Answer}
 use Rattle.tz_batch.specs.declared.answer.Answer.TheVariants as answers
 use Rattle.tz_batch.specs.declared.found.Found.{Found}
@@ -25,25 +25,25 @@ abbrev pub IsToldAs : Edition → ℕ → ℕ → Type 0
 IsToldAs edition n slot = (edition.n ≡ n) × (edition.slot ≡ slot)
 
 -- the write after so many changes the list so
-abbrev pub IsChangeAfter : Batch → ℕ → Change → Type 0
-IsChangeAfter batch before change =
-    option_map (λ write. write.change) (slice_get batch.outcome.journal before) ≡ Some change
+abbrev pub IsChangeAfter : Round → ℕ → Change → Type 0
+IsChangeAfter round before change =
+    option_map (λ write. write.change) (slice_get round.journal before) ≡ Some change
 
 -- `look`
-abbrev pub AnswersLook : Batch → ℕ → Answer → Type 0
-AnswersLook batch w (answers.Front n slot) = IsToldAs (newest_at batch w) n slot
-AnswersLook batch w _ = ⊥
+abbrev pub AnswersLook : Round → ℕ → Answer → Type 0
+AnswersLook round w (answers.Front n slot) = IsToldAs (newest_at round w) n slot
+AnswersLook round w _ = ⊥
 
 -- `hold`
-abbrev pub AnswersHold : Batch → ℕ → Answer → Type 0
-AnswersHold batch w (answers.Held n slot) = IsToldAs (newest_at batch w) n slot
-AnswersHold batch w _ = ⊥
+abbrev pub AnswersHold : Round → ℕ → Answer → Type 0
+AnswersHold round w (answers.Held n slot) = IsToldAs (newest_at round w) n slot
+AnswersHold round w _ = ⊥
 
 -- `drop`
-abbrev pub AnswersDrop : Batch → List Answered → Answered → List ℕ → Answer → Type 0
-AnswersDrop batch before here name (answers.Dropped n slot) =
-    (edition : Edition) × IsHeldAs batch before here.operation name edition × IsToldAs edition n slot
-AnswersDrop batch before here name _ = ⊥
+abbrev pub AnswersDrop : Round → List Answered → Answered → List ℕ → Answer → Type 0
+AnswersDrop round before here name (answers.Dropped n slot) =
+    (edition : Edition) × IsHeldAs round before here.operation name edition × IsToldAs edition n slot
+AnswersDrop round before here name _ = ⊥
 
 -- no version is made of the source at a place: the leap text is refused with that fault, or it is accepted and the
 -- source refused
@@ -55,81 +55,80 @@ abbrev pub IsAccepted : Sources → ℕ → Type 0
 IsAccepted sources src = (fault : Fault) → ¬ (IsRefusedWith sources src fault)
 
 -- the front at a position has the name that a version of the source at a place would have
-abbrev pub HasNameOf : Batch → ℕ → ℕ → Type 0
-HasNameOf batch w src =
-    name_of_source batch.sources (newest_at batch w).src ≡ name_of_source batch.sources src
+abbrev pub HasNameOf : Round → ℕ → ℕ → Type 0
+HasNameOf round w src =
+    name_of_source round.sources (newest_at round w).src ≡ name_of_source round.sources src
 
 -- `reload` of a source at a place
-abbrev pub AnswersReload : Batch → List Answered → Answered → ℕ → ℕ → Answer → Type 0
-AnswersReload batch before here src w (answers.Refused file line cause) =
-    IsRefusedWith batch.sources src (record { file = file; line = line; cause = cause })
-AnswersReload batch before here src w (answers.Same n) =
-    IsAccepted batch.sources src × HasNameOf batch w src × ((newest_at batch w).n ≡ n)
-AnswersReload batch before here src (suc w) (answers.Pushed n slot) =
-    IsAccepted batch.sources src × ¬ (HasNameOf batch w src) × IsChangeAfter batch w (Push n src slot)
-AnswersReload batch before here src w answers.Full =
-    IsAccepted batch.sources src × ¬ (HasNameOf batch w src) × IsFull batch before here.operation w
-AnswersReload batch before here src w _ = ⊥
+abbrev pub AnswersReload : Round → ℕ → ℕ → Answer → Type 0
+AnswersReload round src w (answers.Refused file line cause) =
+    IsRefusedWith round.sources src (record { file = file; line = line; cause = cause })
+AnswersReload round src w (answers.Same n) =
+    IsAccepted round.sources src × HasNameOf round w src × ((newest_at round w).n ≡ n)
+AnswersReload round src (suc w) (answers.Pushed n slot) =
+    IsAccepted round.sources src × ¬ (HasNameOf round w src) × IsChangeAfter round w (Push n src slot)
+AnswersReload round src w answers.Full = IsAccepted round.sources src × ¬ (HasNameOf round w src)
+AnswersReload round src w _ = ⊥
 
 -- The version behind which an erasure at a position erases: the one that is held, or the front at some position from
 -- the last one of the lane in the round, or from where the round starts, up to the one that the erasure met.
-abbrev pub ErasesBehind : Batch → List Answered → Answered → Pick → ℕ → Edition → Type 0
-ErasesBehind batch before here Front met edition =
-    (h : ℕ) × (position_before batch before here.operation ≤ h) × (h ≤ met) × (edition ≡ newest_at batch h)
-ErasesBehind batch before here (Held name) met edition = IsHeldAs batch before here.operation name edition
+abbrev pub ErasesBehind : Round → List Answered → Answered → Pick → ℕ → Edition → Type 0
+ErasesBehind round before here Front met edition =
+    (h : ℕ) × (position_before round before here.operation ≤ h) × (h ≤ met) × (edition ≡ newest_at round h)
+ErasesBehind round before here (Held name) met edition = IsHeldAs round before here.operation name edition
 
 -- an erasure behind a version that is told so
-abbrev pub ErasesBehindTold : Batch → List Answered → Answered → Pick → ℕ → ℕ → ℕ → Type 0
-ErasesBehindTold batch before here pick met n slot =
-    (edition : Edition) × ErasesBehind batch before here pick met edition × IsToldAs edition n slot
+abbrev pub ErasesBehindTold : Round → List Answered → Answered → Pick → ℕ → ℕ → ℕ → Type 0
+ErasesBehindTold round before here pick met n slot =
+    (edition : Edition) × ErasesBehind round before here pick met edition × IsToldAs edition n slot
 
 -- `erase`
-abbrev pub AnswersErase : Batch → List Answered → Answered → Pick → ℕ → Answer → Type 0
-AnswersErase batch before here pick w (answers.NotListed n slot) =
-    ErasesBehindTold batch before here pick w n slot × (is_listed n (list_at batch w).listed ≡ false)
-AnswersErase batch before here pick w (answers.Nothing n slot) =
-    ErasesBehindTold batch before here pick w n slot × IsTrue (is_listed n (list_at batch w).listed)
-    × (greatest_below n (list_at batch w).listed ≡ 0)
-AnswersErase batch before here pick (suc w) (answers.Erased n slot gone) =
-    ErasesBehindTold batch before here pick w n slot × IsTrue (allowed (list_at batch w) (Erase n gone))
-    × IsChangeAfter batch w (Erase n gone)
-AnswersErase batch before here pick w _ = ⊥
+abbrev pub AnswersErase : Round → List Answered → Answered → Pick → ℕ → Answer → Type 0
+AnswersErase round before here pick w (answers.NotListed n slot) =
+    ErasesBehindTold round before here pick w n slot × (is_listed n (list_at round w).listed ≡ false)
+AnswersErase round before here pick w (answers.Nothing n slot) =
+    ErasesBehindTold round before here pick w n slot × IsTrue (is_listed n (list_at round w).listed)
+    × (greatest_below n (list_at round w).listed ≡ 0)
+AnswersErase round before here pick (suc w) (answers.Erased n slot gone) =
+    ErasesBehindTold round before here pick w n slot × IsTrue (allowed (list_at round w) (Erase n gone))
+    × IsChangeAfter round w (Erase n gone)
+AnswersErase round before here pick w _ = ⊥
 
 -- `list`
-abbrev pub AnswersList : Batch → ℕ → Answer → Type 0
-AnswersList batch w (answers.Listed listing) =
-    (listing.w ≡ w) × (listing.rows ≡ map (row_of batch.sources) (list_at batch w).listed)
-AnswersList batch w _ = ⊥
+abbrev pub AnswersList : Round → ℕ → Answer → Type 0
+AnswersList round w (answers.Listed listing) =
+    (listing.w ≡ w) × (listing.rows ≡ map (row_of round.sources) (list_at round w).listed)
+AnswersList round w _ = ⊥
 
 -- a lookup in the version that is picked
-abbrev pub AnswersLookup : Batch → List Answered → Answered → Pick → (Edition → Found → Type 0) → Answer → Type 0
-AnswersLookup batch before here pick finds (answers.On n slot found) =
-    (edition : Edition) × LooksInto batch before here pick edition × IsToldAs edition n slot × finds edition found
-AnswersLookup batch before here pick finds _ = ⊥
+abbrev pub AnswersLookup : Round → List Answered → Answered → Pick → (Edition → Found → Type 0) → Answer → Type 0
+AnswersLookup round before here pick finds (answers.On n slot found) =
+    (edition : Edition) × LooksInto round before here pick edition × IsToldAs edition n slot × finds edition found
+AnswersLookup round before here pick finds _ = ⊥
 
 -- the same in a zone of that name
-abbrev pub AnswersInZone : Batch → List Answered → Answered → Pick → List ℕ → (CompiledZone → Found → Type 0) → Answer → Type 0
-AnswersInZone batch before here pick name finds answer =
-    AnswersLookup batch before here pick (λ edition. FindsInZone batch.sources edition.src name finds) answer
+abbrev pub AnswersInZone : Round → List Answered → Answered → Pick → List ℕ → (CompiledZone → Found → Type 0) → Answer → Type 0
+AnswersInZone round before here pick name finds answer =
+    AnswersLookup round before here pick (λ edition. FindsInZone round.sources edition.src name finds) answer
 
 -- what one thread answers to an operation at its reply's position, where these operations stand before it
-abbrev pub IsRightReply : Batch → List Answered → Answered → Type 0
-IsRightReply batch before here = by_op here.operation.op here.reply.w here.reply.answer
+abbrev pub IsRightReply : Round → List Answered → Answered → Type 0
+IsRightReply round before here = by_op here.operation.op here.reply.w here.reply.answer
   where
     by_op : Op → ℕ → Answer → Type 0
-    by_op ops.Look w answer = AnswersLook batch w answer
-    by_op (ops.Hold name) w answer = AnswersHold batch w answer
-    by_op (ops.Drop name) w answer = AnswersDrop batch before here name answer
+    by_op ops.Look w answer = AnswersLook round w answer
+    by_op (ops.Hold name) w answer = AnswersHold round w answer
+    by_op (ops.Drop name) w answer = AnswersDrop round before here name answer
     by_op (ops.Info v zone t) w answer =
-        AnswersInZone batch before here v zone (λ compiled. FindsInfo compiled t) answer
+        AnswersInZone round before here v zone (λ compiled. FindsInfo compiled t) answer
     by_op (ops.Local v zone l) w answer =
-        AnswersInZone batch before here v zone (λ compiled. FindsLocal compiled l) answer
+        AnswersInZone round before here v zone (λ compiled. FindsLocal compiled l) answer
     by_op (ops.Sys v zone l choose) w answer =
-        AnswersInZone batch before here v zone (λ compiled. FindsSys compiled l choose) answer
+        AnswersInZone round before here v zone (λ compiled. FindsSys compiled l choose) answer
     by_op (ops.Scan v zone from step count) w answer =
-        AnswersInZone batch before here v zone (λ compiled. FindsScan compiled from step count) answer
+        AnswersInZone round before here v zone (λ compiled. FindsScan compiled from step count) answer
     by_op (ops.Clock v conv x) w answer =
-        AnswersLookup batch before here v (λ edition. FindsByClock batch.sources conv x) answer
-    by_op (ops.Reload src) w answer = AnswersReload batch before here src w answer
-    by_op (ops.Erase v) w answer = AnswersErase batch before here v w answer
-    by_op ops.List w answer = AnswersList batch w answer
+        AnswersLookup round before here v (λ edition. FindsByClock round.sources conv x) answer
+    by_op (ops.Reload src) w answer = AnswersReload round src w answer
+    by_op (ops.Erase v) w answer = AnswersErase round before here v w answer
+    by_op ops.List w answer = AnswersList round w answer

@@ -1,11 +1,10 @@
--- A batch: operations in so many lanes over some sources, in a list of so many slots, with their outcome. A position w
--- is the number of writes so far.
-use Rattle.std.specs.Prelude.{ℕ, ◌==◌, nat_lt, Bool, true, false, ◌&&◌, List, [], ◌∷◌, Option, Some, None, take, filter, fold, count_by, slice_get}
+-- A batch: operations in so many lanes over some sources, in a list of so many slots, with their outcome.
+use Rattle.std.specs.Prelude.{ℕ, nat_lt, Bool, true, false, ◌&&◌, List, [], ◌∷◌, Option, Some, None, count_by, slice_get}
 use Rattle.tz_types.specs.declared.source.Source.{Source}
 use Rattle.tz_specs.specs.Reads.{version_of}
 use Rattle.tz_script.specs.declared.operation.Operation.{Operation}
 use Rattle.tz_version.specs.declared.sources.Sources.{Sources}
-use Rattle.pin_book.specs.Replay.{Edition, ListState, state_after, front_of}
+use Rattle.pin_book.specs.Replay.{Edition}
 use Rattle.pin_book.specs.declared.listed.Listed.{Listed}
 use Rattle.tz_batch.specs.declared.answer.Answer.{Answer}
 use Rattle.tz_batch.specs.declared.answer.Answer.TheVariants as answers
@@ -35,14 +34,6 @@ each_answered (operation ∷ operations) (reply ∷ replies) =
 abbrev pub answered : Batch → List Answered
 answered batch = each_answered batch.operations batch.outcome.replies
 
--- the list at a position: that after so many writes of the journal
-abbrev pub list_at : Batch → ℕ → ListState
-list_at batch w = state_after batch.slots (take w batch.outcome.journal)
-
--- the version at the front at a position
-abbrev pub newest_at : Batch → ℕ → Edition
-newest_at batch w = front_of (list_at batch w).listed
-
 -- the name of the versions of the source at a place: its version text
 abbrev pub name_of_source : Sources → ℕ → List ℕ
 name_of_source sources src = by_source (slice_get sources.texts src)
@@ -66,16 +57,6 @@ tells_write _ = false
 abbrev pub is_write_before : ℕ → Answered → Bool
 is_write_before round here = nat_lt here.operation.round round && tells_write here.reply.answer
 
--- the position at which a round starts: how many writes the replies of the rounds before it tell of
+-- the position from which a round starts: how many writes the replies of the rounds before it tell of
 abbrev pub start_of : Batch → ℕ → ℕ
 start_of batch round = count_by (is_write_before round) (answered batch)
-
--- the other operation is of the same lane and round
-abbrev pub is_beside : Operation → Answered → Bool
-is_beside operation other =
-    (other.operation.lane == operation.lane) && (other.operation.round == operation.round)
-
--- the last position of the operation's lane in its round, by the replies before it, or else where the round starts
-abbrev pub position_before : Batch → List Answered → Operation → ℕ
-position_before batch before operation =
-    fold (λ w other. other.reply.w) (start_of batch operation.round) (filter (is_beside operation) before)

@@ -6,34 +6,35 @@ use Rattle.tz_script.specs.declared.operation.Operation.{Operation}
 use Rattle.tz_script.specs.declared.operation.Pick.{Pick}
 use Rattle.tz_script.specs.declared.operation.Pick.TheVariants.{Front, Held}
 use Rattle.pin_book.specs.Replay.{Edition}
-use Rattle.tz_batch.specs.Batch.{Batch, Answered, newest_at}
+use Rattle.tz_batch.specs.Batch.{Answered}
+use Rattle.tz_batch.specs.Round.{Round, newest_at}
 
--- the holds of a round that are open after one more operation; those of other rounds don't count
+-- the holds of the round of that number that are open after one more operation; those of other rounds don't count
 abbrev pub holds_in : ℕ → List OpenHold → Answered → List OpenHold
-holds_in round holds here =
-    if here.operation.round == round
+holds_in number holds here =
+    if here.operation.round == number
     then holds_after here.operation.line here.operation.lane here.operation.op holds else holds
 
 -- the holds of a round that are open behind these operations
 abbrev pub open_holds : ℕ → List Answered → List OpenHold
-open_holds round before = fold (holds_in round) [] before
+open_holds number before = fold (holds_in number) [] before
 
 -- one of the operations before began this hold, which is open in the round
-pub record IsOpenHold (before : List Answered) (round : ℕ) (open_hold : OpenHold) (begun : Answered) : Type 0 where
-  pub is_open : Contains (open_holds round before) open_hold
+pub record IsOpenHold (before : List Answered) (number : ℕ) (open_hold : OpenHold) (begun : Answered) : Type 0 where
+  pub is_open : Contains (open_holds number before) open_hold
   pub is_before : Contains before begun
   pub line : begun.operation.line ≡ open_hold.line
 
 -- The operation's lane holds this version by that name: it was at the front at the position where the hold began.
-pub record IsHeldAs (batch : Batch) (before : List Answered) (operation : Operation) (name : List ℕ) (edition : Edition) : Type 0 where
+pub record IsHeldAs (round : Round) (before : List Answered) (operation : Operation) (name : List ℕ) (edition : Edition) : Type 0 where
   pub open_hold : OpenHold
   pub begun : Answered
   pub is : IsOpenHold before operation.round open_hold begun
   pub lane : open_hold.lane ≡ operation.lane
   pub name_is : open_hold.name ≡ name
-  pub version : edition ≡ newest_at batch begun.reply.w
+  pub version : edition ≡ newest_at round begun.reply.w
 
 -- the version that an operation at a position looks into: the one at the front there, or the one that is held
-abbrev pub LooksInto : Batch → List Answered → Answered → Pick → Edition → Type 0
-LooksInto batch before here Front edition = edition ≡ newest_at batch here.reply.w
-LooksInto batch before here (Held name) edition = IsHeldAs batch before here.operation name edition
+abbrev pub LooksInto : Round → List Answered → Answered → Pick → Edition → Type 0
+LooksInto round before here Front edition = edition ≡ newest_at round here.reply.w
+LooksInto round before here (Held name) edition = IsHeldAs round before here.operation name edition

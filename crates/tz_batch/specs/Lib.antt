@@ -1,5 +1,6 @@
 pub mod OutcomeText
 pub mod Batch
+pub mod Round
 pub mod Held
 pub mod Finding
 pub mod PassedOver

@@ -12,7 +12,8 @@ use Rattle.pin_book.specs.declared.write.Change.TheVariants.{Push, Erase}
 use Rattle.pin_book.specs.declared.write.Write.{Write}
 use Rattle.pin_book.specs.Replay.{replays}
 use Rattle.pin_book.specs.Sequence.{AreCounted}
-use Rattle.tz_batch.specs.Batch.{Batch, Answered, answered, list_at, start_of, position_before}
+use Rattle.tz_batch.specs.Batch.{Batch, Answered, answered}
+use Rattle.tz_batch.specs.Round.{Round, round_of, list_at, position_before, InTurn}
 use Rattle.tz_batch.specs.Answering.{IsRightReply}
 use Rattle.tz_batch.specs.PassedOver.{IsPassedOver, IsFull}
 use Rattle.tz_batch.specs.declared.answer.Answer.{Answer}
@@ -20,10 +21,10 @@ use Rattle.tz_batch.specs.declared.answer.Answer.TheVariants as answers
 use Rattle.tz_batch.specs.declared.outcome.Outcome.{Outcome}
 use Rattle.tz_batch.specs.declared.reply.Reply.{Reply}
 
--- a fact of each operation, by those before it
-abbrev pub EachInTurn : Batch → (List Answered → Answered → Type 0) → Type 0
+-- a fact of each operation in its round, by those before it
+abbrev pub EachInTurn : Batch → (Round → List Answered → Answered → Type 0) → Type 0
 EachInTurn batch fact =
-    (before later : List Answered) (here : Answered) → answered batch ≡ before ++ here ∷ later → fact before here
+    InTurn (answered batch) (λ before here. fact (round_of batch here.operation.round) before here)
 
 -- ---- the journal ----
 
@@ -71,18 +72,17 @@ pub record WritesAreReplies (batch : Batch) : Type 0 where
 pub record RepliesAreRight (batch : Batch) : Type 0 where
   pub one_each : map (λ (reply : Reply). reply.line) batch.outcome.replies
       ≡ map (λ (operation : Operation). operation.line) batch.operations
-  pub right : EachInTurn batch (IsRightReply batch)
+  pub right : EachInTurn batch IsRightReply
 
 -- ---- the positions ----
 
--- In each round positions are from where it starts to where the next one does, and within a lane and a round none is
--- below the one before it.
-pub record HasPosition (batch : Batch) (before : List Answered) (here : Answered) : Type 0 where
-  pub low : position_before batch before here.operation ≤ here.reply.w
-  pub high : here.reply.w ≤ start_of batch (here.operation.round + 1)
+-- A position is at most where the round ends, and not below the one before it of its lane.
+pub record HasPosition (round : Round) (before : List Answered) (here : Answered) : Type 0 where
+  pub low : position_before round before here.operation ≤ here.reply.w
+  pub high : here.reply.w ≤ round.end
 
 abbrev pub PositionsDontFall : Batch → Type 0
-PositionsDontFall batch = EachInTurn batch (HasPosition batch)
+PositionsDontFall batch = EachInTurn batch HasPosition
 
 -- ---- the slots ----
 
@@ -108,27 +108,25 @@ versions_told (answers.Listed listing) =
 versions_told (answers.On n slot found) = record { n = n; slot = slot } ∷ []
 
 -- each slot that a reply tells keeps the number that it tells, at the reply's position
-abbrev pub SlotsKeep : Batch → Type 0
-SlotsKeep batch =
-    (here : Answered) (told : InSlot) → Contains (answered batch) here → Contains (versions_told here.reply.answer) told
-    → slice_get (list_at batch here.reply.w).kept told.slot ≡ Some told.n
+abbrev pub SlotsKeep : Round → List Answered → Answered → Type 0
+SlotsKeep round before here =
+    (told : InSlot) → Contains (versions_told here.reply.answer) told
+    → slice_get (list_at round here.reply.w).kept told.slot ≡ Some told.n
 
 -- Every slot below the one that a push takes is passed over in the list that the push met. With one lane a push is made
 -- wherever a slot isn't passed over.
-pub record TakesFirstSlot (batch : Batch) (before : List Answered) (operation : Operation) (met slot : ℕ) : Type 0 where
-  pub lower : (other : ℕ) → other < slot → IsPassedOver batch before operation met other
-  pub exact : batch.lanes ≡ 1 → ¬ (IsFull batch before operation met)
+pub record TakesFirstSlot (round : Round) (before : List Answered) (operation : Operation) (met slot : ℕ) : Type 0 where
+  pub lower : (other : ℕ) → other < slot → IsPassedOver round before operation met other
+  pub exact : round.lanes ≡ 1 → ¬ (IsFull round before operation met)
 
--- where the answer tells of a push, it takes a slot so
-abbrev pub PassesOver : Batch → List Answered → Answered → Type 0
-PassesOver batch before here = by_answer here.reply.answer
+-- a push takes a slot so, and the list is full only where every slot is passed over
+abbrev pub PassesOver : Round → List Answered → Answered → Type 0
+PassesOver round before here = by_answer here.reply.answer
   where
     by_answer : Answer → Type 0
-    by_answer (answers.Pushed n slot) = TakesFirstSlot batch before here.operation (here.reply.w - 1) slot
+    by_answer (answers.Pushed n slot) = TakesFirstSlot round before here.operation (here.reply.w - 1) slot
+    by_answer answers.Full = IsFull round before here.operation here.reply.w
     by_answer _ = Unit {0}
-
-abbrev pub PushesPassOver : Batch → Type 0
-PushesPassOver batch = EachInTurn batch (PassesOver batch)
 
 -- ---- the run ----
 
@@ -138,8 +136,8 @@ pub record IsRunOf (batch : Batch) : Type 0 where
   pub writes : WritesAreReplies batch
   pub replies : RepliesAreRight batch
   pub positions : PositionsDontFall batch
-  pub slots : SlotsKeep batch
-  pub pushes : PushesPassOver batch
+  pub slots : EachInTurn batch SlotsKeep
+  pub pushes : EachInTurn batch PassesOver
 
 -- the outcome is one that a run of the script may give, over these sources and in a list of so many slots
 abbrev pub IsRun : Script → Sources → ℕ → Outcome → Type 0

@@ -12,7 +12,7 @@ use Rattle.tz_script.proofs.Order.{rounds_dont_fall, lines_rise, one_lane}
 use Rattle.tz_version.specs.declared.sources.Sources.{Sources}
 use Rattle.tz_batch.specs.Batch.{Batch, Answered, each_answered}
 use Rattle.tz_batch.specs.Answering.{IsRightReply}
-use Rattle.tz_batch.specs.Run.{EachInTurn, SlotsKeep, PushesPassOver, IsRunOf, IsRun}
+use Rattle.tz_batch.specs.Run.{EachInTurn, SlotsKeep, PassesOver, IsRunOf, IsRun}
 use Rattle.tz_batch.specs.declared.outcome.Outcome.{Outcome}
 use Rattle.tz_batch.specs.declared.reply.Reply.{Reply}
 use Rattle.tz_run.specs.Session.{Session, opening_session}
@@ -101,7 +101,7 @@ lines_told (operation ∷ operations) (reply ∷ replies) first last long leads 
     ap₂ (λ (line : ℕ) (more : List ℕ). line ∷ more) leads.1.line (lines_told operations replies leads.0 last (omega (arith, long)) leads.2)
 
 -- a batch that is served keeps all parts of a run
-served_run : (batch : Batch) (room : ℕ) (last : Session) → IsServed batch room last → EachInTurn batch (IsRightReply batch) → SlotsKeep batch → PushesPassOver batch → IsRunOf batch
+served_run : (batch : Batch) (room : ℕ) (last : Session) → IsServed batch room last → EachInTurn batch IsRightReply → EachInTurn batch SlotsKeep → EachInTurn batch PassesOver → IsRunOf batch
 served_run batch room last served right slots pushes =
     record {
       replay = journal_replays batch room last served;

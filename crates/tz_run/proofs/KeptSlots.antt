@@ -14,8 +14,8 @@ use Rattle.pin_book.specs.Replay.{Edition, ListState, allowed, after_change}
 use Rattle.pin_book.specs.Pushes.{pushes}
 use Rattle.pin_book.proofs.LawLemmas.{stands_for}
 use Rattle.pin_book.proofs.ReplayLemmas.{push_asks, replay_orderly, state_after_push}
-use Rattle.tz_batch.specs.Batch.{Batch, Answered, answered, row_of}
-use Rattle.tz_batch.specs.Run.{InSlot, versions_told, SlotsKeep}
+use Rattle.tz_batch.specs.Batch.{Batch, Answered, row_of}
+use Rattle.tz_batch.specs.Run.{EachInTurn, InSlot, versions_told, SlotsKeep}
 use Rattle.tz_batch.specs.Answering.{IsToldAs}
 use Rattle.tz_batch.specs.declared.answer.Answer.{Answer}
 use Rattle.tz_batch.specs.declared.answer.Answer.TheVariants as answers
@@ -164,19 +164,10 @@ module _ (now after : Session) (sound : IsSound now) where
   told_kept line round lane (ops.Erase v) answer served = told_erase v answer served
   told_kept line round lane ops.List answer served = told_list answer served
 
--- an element stands between others
-split_at : (those : List Answered) (here : Answered) → Contains those here → (before : List Answered) × (later : List Answered) × (those ≡ before ++ here ∷ later)
-split_at [] here (k, low, at) = absurd (omega arith)
-split_at (first ∷ those) here (zero, low, at) = ([], those, ap (λ (it : Answered). it ∷ those) at)
-split_at (first ∷ those) here (suc k, low, at) =
-    let rest = split_at those here (k, omega arith, at) in
-    (first ∷ rest.0, rest.1, ap (λ (xs : List Answered). first ∷ xs) rest.2)
-
 -- Every version that a reply of a batch that is served tells is kept by its slot, at the reply's position.
-pub slots_keep : (batch : Batch) (room : ℕ) (last : Session) → IsServed batch room last → SlotsKeep batch
-slots_keep batch room last served here told is_one is_told =
-    let place = split_at (answered batch) here is_one in
-    let turn = turn_of batch room last place.0 place.1 here served place.2 in
+pub slots_keep : (batch : Batch) (room : ℕ) (last : Session) → IsServed batch room last → EachInTurn batch SlotsKeep
+slots_keep batch room last served before later here is told is_told =
+    let turn = turn_of batch room last before later here served is in
     let operation = here.operation in
     let keeps = told_kept turn.0 turn.1 turn.2.sound operation.line operation.round operation.lane operation.op here.reply.answer turn.2.served told is_told in
     subst (λ (state : ListState). KeepsIn state told.slot told.n) (sym turn.2.list_told) keeps

@@ -24,7 +24,7 @@ use Rattle.pin_book.specs.Sequence.{next_seq, AreCounted}
 use Rattle.pin_book.proofs.ListLemmas.{Stands}
 use Rattle.pin_book.proofs.ReplayLemmas.{replay_orderly, replays_push, state_after_push}
 use Rattle.pin_book.proofs.SequenceLemmas.{counted_push}
-use Rattle.tz_batch.specs.Batch.{Batch, Answered, answered, list_at, tells_write}
+use Rattle.tz_batch.specs.Batch.{Batch, Answered, answered, tells_write}
 use Rattle.tz_batch.specs.Finding.{FindsInfo, FindsLocal, FindsSys, FindsScan, FindsInZone, FindsByClock}
 use Rattle.tz_batch.specs.declared.answer.Answer.{Answer}
 use Rattle.tz_batch.specs.declared.answer.Answer.TheVariants as answers
@@ -33,7 +33,7 @@ use Rattle.tz_run.specs.Session.{Session, opening_session, in_round, list_now, n
 use Rattle.tz_run.specs.Serving.{ServesLook, ServesHold, ServesDrop, ServesLookup, ServesReload, ServesErase, ServesList, Serves, hold_at}
 use Rattle.tz_run.specs.Leading.{Steps, Leads}
 use Rattle.tz_run.specs.declared.hold.Hold.{Hold}
-use Rattle.tz_run.proofs.Served.{IsServed}
+use Rattle.tz_run.proofs.Served.{list_in, IsServed}
 
 -- ---- the parts ----
 
@@ -425,12 +425,12 @@ pub record Meeting (batch : Batch) (room : ℕ) (last : Session) (before later :
   pub front_met : take (length met.journal) batch.outcome.journal ≡ met.journal
   pub tail : List Write
   pub journal : batch.outcome.journal ≡ after.journal ++ tail
-  pub list_met : list_at batch (length met.journal) ≡ list_now met
-  pub list_after : list_at batch here.reply.w ≡ list_now after
+  pub list_met : list_in batch (length met.journal) ≡ list_now met
+  pub list_after : list_in batch here.reply.w ≡ list_now after
   pub position : here.reply.w ≡ length after.journal
 
 -- the list of the batch at a position is the session's whose journal ends there
-list_there : (batch : Batch) (session : Session) → session.slots ≡ batch.slots → take (length session.journal) batch.outcome.journal ≡ session.journal → list_at batch (length session.journal) ≡ list_now session
+list_there : (batch : Batch) (session : Session) → session.slots ≡ batch.slots → take (length session.journal) batch.outcome.journal ≡ session.journal → list_in batch (length session.journal) ≡ list_now session
 list_there batch session slots front =
     ap (state_after batch.slots) front ∙ ap (λ (count : ℕ). state_after count session.journal) (sym slots)
 
@@ -462,6 +462,6 @@ session_met batch room last before later here served is =
           journal = sym served.journal ∙ grows.1;
           list_met = list_there batch met same.1 front_met;
           list_after =
-              ap (list_at batch) rest.1.position ∙ list_there batch after ((step_same met after here rest.1).1 ∙ same.1) front_after;
+              ap (list_in batch) rest.1.position ∙ list_there batch after ((step_same met after here rest.1).1 ∙ same.1) front_after;
           position = rest.1.position;
         }

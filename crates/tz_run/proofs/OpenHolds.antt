@@ -14,7 +14,8 @@ use Rattle.tz_script.specs.declared.operation.Operation.{Operation}
 use Rattle.tz_version.specs.declared.sources.Sources.{Sources}
 use Rattle.pin_book.specs.declared.write.Write.{Write}
 use Rattle.pin_book.specs.Replay.{Edition, ListState, front_of, state_after}
-use Rattle.tz_batch.specs.Batch.{Batch, Answered, answered, list_at, newest_at}
+use Rattle.tz_batch.specs.Batch.{Batch, Answered, answered}
+use Rattle.tz_batch.specs.Round.{round_of}
 use Rattle.tz_batch.specs.Held.{holds_in, open_holds, IsOpenHold, IsHeldAs}
 use Rattle.tz_batch.specs.PassedOver.{IsHeldSlot}
 use Rattle.tz_batch.specs.declared.answer.Answer.{Answer}
@@ -23,7 +24,7 @@ use Rattle.tz_run.specs.Session.{Session, opening_session, in_round, list_now, n
 use Rattle.tz_run.specs.Serving.{ServesHold, Serves, hold_at}
 use Rattle.tz_run.specs.Leading.{Steps, Leads}
 use Rattle.tz_run.specs.declared.hold.Hold.{Hold}
-use Rattle.tz_run.proofs.Served.{IsServed}
+use Rattle.tz_run.proofs.Served.{list_in, newest_in, IsServed}
 use Rattle.tz_run.proofs.Order.{Rises, rises, one_by_line, InLane, in_first_lane}
 use Rattle.tz_run.proofs.Leads.{holds_made, steps_made, same_list, journal_grows, Meeting}
 
@@ -181,10 +182,10 @@ pub record HasBegun (batch : Batch) (before : List Answered) (hold : Hold) : Typ
   pub begun : Answered
   pub is_before : Contains before begun
   pub line : begun.operation.line ≡ hold.line
-  pub version : newest_at batch begun.reply.w ≡ edition_held hold
+  pub version : newest_in batch begun.reply.w ≡ edition_held hold
 
 -- a session from which these operations lead to the last one has the list of the batch at its position
-list_behind : (batch : Batch) (first last : Session) (those : List Answered) → Leads first those last → last.slots ≡ batch.slots → take (length last.journal) batch.outcome.journal ≡ last.journal → list_at batch (length first.journal) ≡ list_now first
+list_behind : (batch : Batch) (first last : Session) (those : List Answered) → Leads first those last → last.slots ≡ batch.slots → take (length last.journal) batch.outcome.journal ≡ last.journal → list_in batch (length first.journal) ≡ list_now first
 list_behind batch first last those leads slots front =
     let written = batch.outcome.journal in
     let place = length last.journal in
@@ -210,8 +211,8 @@ all_begun : (batch : Batch) (those : List Answered) (first last : Session) → L
 all_begun batch [] first last leads lane slots front hold has = inl (subst (λ (s : Session). Contains s.holds hold) (sym leads) has)
 all_begun batch (here ∷ later) first last (next, steps, leads) lane slots front hold has =
     let step = step_follows first next here lane.0 steps in
-    let newest : newest_at batch here.reply.w ≡ newest_now next =
-    ap (newest_at batch) steps.position ∙ ap (λ (state : ListState). front_of state.listed) (list_behind batch next last later leads slots front) in
+    let newest : newest_in batch here.reply.w ≡ newest_now next =
+    ap (newest_in batch) steps.position ∙ ap (λ (state : ListState). front_of state.listed) (list_behind batch next last later leads slots front) in
     ⊎_elim
     (λ (held : Contains next.holds hold).
     ⊎_elim (λ (old : Contains (in_round here.operation.round first).holds hold). inl (holds_in_round here.operation.round first hold old))
@@ -292,7 +293,7 @@ is_open_hold batch before round now mirrors hold has = record {
 }
 
 -- what the session holds by a name is held so
-pub held_as : (batch : Batch) (before : List Answered) (operation : Operation) (now : Session) → Mirrors batch before operation.round now → operation.lane ≡ 1 → (name : List ℕ) (edition : Edition) → HoldsAs now name edition → IsHeldAs batch before operation name edition
+pub held_as : (batch : Batch) (before : List Answered) (operation : Operation) (now : Session) → Mirrors batch before operation.round now → operation.lane ≡ 1 → (name : List ℕ) (edition : Edition) → HoldsAs now name edition → IsHeldAs (round_of batch operation.round) before operation name edition
 held_as batch before operation now mirrors lane name edition (hold, has, name_is, version) = record {
   open_hold = open_of hold;
   begun = (mirrors.begun hold has).begun;
@@ -313,7 +314,7 @@ in_slot slot (first ∷ holds) held =
     (or_cases (first.slot == slot) (is_slot_held slot holds) held)
 
 -- a slot in which the session holds a version is a held one
-pub held_slot : (batch : Batch) (before : List Answered) (operation : Operation) (now : Session) → Mirrors batch before operation.round now → (slot : ℕ) → is_slot_held slot now.holds ≡ true → IsHeldSlot batch before operation slot
+pub held_slot : (batch : Batch) (before : List Answered) (operation : Operation) (now : Session) → Mirrors batch before operation.round now → (slot : ℕ) → is_slot_held slot now.holds ≡ true → IsHeldSlot (round_of batch operation.round) before operation slot
 held_slot batch before operation now mirrors slot held =
     let one = in_slot slot now.holds held in
     let begun = mirrors.begun one.0 one.1 in
@@ -325,14 +326,14 @@ held_slot batch before operation now mirrors slot held =
     }
 
 -- and the other way round
-pub slot_held : (batch : Batch) (before : List Answered) (operation : Operation) (now : Session) → Mirrors batch before operation.round now → (slot : ℕ) → IsHeldSlot batch before operation slot → is_slot_held slot now.holds ≡ true
+pub slot_held : (batch : Batch) (before : List Answered) (operation : Operation) (now : Session) → Mirrors batch before operation.round now → (slot : ℕ) → IsHeldSlot (round_of batch operation.round) before operation slot → is_slot_held slot now.holds ≡ true
 slot_held batch before operation now mirrors slot held =
     let one = one_open now.holds held.open_hold (subst (λ (holds : List OpenHold). Contains holds held.open_hold) mirrors.holds held.is.is_open) in
     let begun = mirrors.begun one.0 one.1 in
     let same : begun.begun ≡ held.begun =
     mirrors.alone begun.begun held.begun begun.is_before held.is.is_before (begun.line ∙ ap (λ (h : OpenHold). h.line) one.2 ∙ sym held.is.line) in
     let there : (one.0).slot ≡ slot =
-    sym (ap (λ (edition : Edition). edition.slot) begun.version) ∙ ap (λ (it : Answered). (newest_at batch it.reply.w).slot) same ∙ held.in_slot in
+    sym (ap (λ (edition : Edition). edition.slot) begun.version) ∙ ap (λ (it : Answered). (newest_in batch it.reply.w).slot) same ∙ held.in_slot in
     let has = one.1 in
     list_any_at (λ (hold : Hold). hold.slot == slot) now.holds has.0 one.0 has.1
     (ap (λ (hold : Hold). hold.slot == slot) has.2 ∙ eq-eqb (one.0).slot slot there)

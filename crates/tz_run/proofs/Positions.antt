@@ -5,7 +5,8 @@ use Rattle.std.proofs.lemmas.List.Sums.{sum_by-cons, sum_by-append}
 use Rattle.pin_book.specs.declared.write.Write.{Write}
 use Rattle.tz_script.specs.declared.operation.Operation.{Operation}
 use Rattle.tz_version.specs.declared.sources.Sources.{Sources}
-use Rattle.tz_batch.specs.Batch.{Batch, Answered, each_answered, answered, tells_write, is_write_before, start_of, is_beside, position_before}
+use Rattle.tz_batch.specs.Batch.{Batch, Answered, each_answered, answered, tells_write, is_write_before, start_of}
+use Rattle.tz_batch.specs.Round.{round_of, is_beside, position_before}
 use Rattle.tz_batch.specs.Positions.{PositionsCountWrites}
 use Rattle.tz_batch.specs.Run.{PositionsDontFall}
 use Rattle.tz_batch.specs.declared.reply.Reply.{Reply}
@@ -111,7 +112,7 @@ last_low test first last (here ∷ those) w leads low =
     (λ no. last_low test leads.0 last those w leads.2 low)
 
 -- The last position of the operation's lane in its round is no later than the one that it met.
-pub position_low : (batch : Batch) (room : ℕ) (last : Session) (before later : List Answered) (here : Answered) (meeting : Meeting batch room last before later here) → IsServed batch room last → answered batch ≡ before ++ here ∷ later → position_before batch before here.operation ≤ length meeting.met.journal
+pub position_low : (batch : Batch) (room : ℕ) (last : Session) (before later : List Answered) (here : Answered) (meeting : Meeting batch room last before later here) → IsServed batch room last → answered batch ≡ before ++ here ∷ later → position_before (round_of batch here.operation.round) before here.operation ≤ length meeting.met.journal
 position_low batch room last before later here meeting served is =
     last_low (is_beside here.operation) (opening_session batch.sources batch.slots room) meeting.met before (start_of batch here.operation.round) meeting.leads
     (starts_low batch room last before later here served is meeting.met meeting.leads)

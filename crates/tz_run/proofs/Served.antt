@@ -1,10 +1,19 @@
 -- What the loop of a run leaves behind: the operations of a batch, each served in its turn.
-use Rattle.std.specs.Prelude.{◌≡◌, ℕ, ◌<◌, ◌≤◌, ◌==◌, List, ◌∷◌, ◌++◌, length, IsTrue}
+use Rattle.std.specs.Prelude.{◌≡◌, ℕ, ◌<◌, ◌≤◌, ◌==◌, List, ◌∷◌, ◌++◌, length, take, IsTrue}
 use Rattle.std.specs.List.{list_all}
 use Rattle.tz_script.specs.declared.operation.Operation.{Operation}
+use Rattle.pin_book.specs.Replay.{Edition, ListState, state_after, front_of}
 use Rattle.tz_batch.specs.Batch.{Batch, Answered, answered}
 use Rattle.tz_run.specs.Session.{Session, opening_session}
 use Rattle.tz_run.specs.Leading.{Leads}
+
+-- the list of a batch at a position
+abbrev pub list_in : Batch → ℕ → ListState
+list_in batch w = state_after batch.slots (take w batch.outcome.journal)
+
+-- the version at the front there
+abbrev pub newest_in : Batch → ℕ → Edition
+newest_in batch w = front_of (list_in batch w).listed
 
 -- Of any two operations the later one has the greater line, and no lesser round.
 pub record InOrder (those : List Answered) : Type 0 where

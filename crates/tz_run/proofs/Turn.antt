@@ -3,11 +3,12 @@ use Rattle.std.proofs.Common.{◌≡◌, ℕ, ◌≤◌, ◌<◌, true, List, �
 use Rattle.std.proofs.lemmas.Bool.{or_cases, or_left, or_right}
 use Rattle.pin_book.specs.declared.write.Write.{Write}
 use Rattle.pin_book.specs.Replay.{ListState, front_of, is_slot_listed}
-use Rattle.tz_batch.specs.Batch.{Batch, Answered, answered, list_at, newest_at, position_before}
+use Rattle.tz_batch.specs.Batch.{Batch, Answered, answered}
+use Rattle.tz_batch.specs.Round.{Round, round_of, position_before}
 use Rattle.tz_batch.specs.PassedOver.{IsHeldSlot, MayBeHeld, IsPassedOver, IsFull}
 use Rattle.tz_run.specs.Session.{Session, in_round, list_now, newest_now, is_slot_held, is_slot_taken, IsFilled}
 use Rattle.tz_run.specs.Serving.{Serves}
-use Rattle.tz_run.proofs.Served.{IsServed}
+use Rattle.tz_run.proofs.Served.{list_in, newest_in, IsServed}
 use Rattle.tz_run.proofs.Leads.{IsSound, session_met, same_in_round, sound_in_round}
 use Rattle.tz_run.proofs.Positions.{position_low}
 use Rattle.tz_run.proofs.Order.{in_first_lane}
@@ -23,10 +24,10 @@ pub record Turn (batch : Batch) (before : List Answered) (here : Answered) (now 
   pub mirrors : Mirrors batch before here.operation.round now
   pub sources : now.sources ≡ batch.sources
   pub slots : now.slots ≡ batch.slots
-  pub list_met : list_at batch (length now.journal) ≡ list_now now
-  pub list_told : list_at batch here.reply.w ≡ list_now after
+  pub list_met : list_in batch (length now.journal) ≡ list_now now
+  pub list_told : list_in batch here.reply.w ≡ list_now after
   pub position : here.reply.w ≡ length after.journal
-  pub low : position_before batch before here.operation ≤ length now.journal
+  pub low : position_before (round_of batch here.operation.round) before here.operation ≤ length now.journal
   pub tail : List Write
   pub journal : batch.outcome.journal ≡ after.journal ++ tail
 
@@ -50,10 +51,10 @@ turn_of batch room last before later here served is =
         mirrors = mirrors batch room last before later here served is meeting;
         sources = sources ∙ meeting.sources;
         slots = slots ∙ meeting.slots;
-        list_met = ap (λ (xs : List Write). list_at batch (length xs)) journal ∙ (meeting.list_met ∙ sym list);
+        list_met = ap (λ (xs : List Write). list_in batch (length xs)) journal ∙ (meeting.list_met ∙ sym list);
         list_told = meeting.list_after;
         position = meeting.position;
-        low = subst (λ (xs : List Write). position_before batch before here.operation ≤ length xs) (sym journal) (position_low batch room last before later here meeting served is);
+        low = subst (λ (xs : List Write). position_before (round_of batch here.operation.round) before here.operation ≤ length xs) (sym journal) (position_low batch room last before later here meeting served is);
         tail = meeting.tail;
         journal = meeting.journal;
       },
@@ -61,11 +62,11 @@ turn_of batch room last before later here served is =
 
 module _ (batch : Batch) (before : List Answered) (here : Answered) (now after : Session) (turn : Turn batch before here now after) where
   -- the version at the front where the operation meets the list
-  pub newest_met : newest_at batch (length now.journal) ≡ newest_now now
+  pub newest_met : newest_in batch (length now.journal) ≡ newest_now now
   newest_met = ap (λ (state : ListState). front_of state.listed) turn.list_met
 
   -- and at its reply's position
-  pub newest_told : newest_at batch here.reply.w ≡ newest_now after
+  pub newest_told : newest_in batch here.reply.w ≡ newest_now after
   newest_told = ap (λ (state : ListState). front_of state.listed) turn.list_told
 
   -- where nothing changes, the reply stands where the operation meets the list
@@ -73,7 +74,7 @@ module _ (batch : Batch) (before : List Answered) (here : Answered) (now after :
   position_kept same = turn.position ∙ ap (λ (s : Session). length s.journal) same
 
   -- a slot that is taken is passed over
-  pub passed_over : (slot : ℕ) → is_slot_taken now slot ≡ true → IsPassedOver batch before here.operation (length now.journal) slot
+  pub passed_over : (slot : ℕ) → is_slot_taken now slot ≡ true → IsPassedOver (round_of batch here.operation.round) before here.operation (length now.journal) slot
   passed_over slot taken =
       ⊎_elim
       (λ (listed : is_slot_listed slot (list_now now).listed ≡ true).
@@ -81,28 +82,28 @@ module _ (batch : Batch) (before : List Answered) (here : Answered) (now after :
       (λ (held : is_slot_held slot now.holds ≡ true). inr (may_be_held (held_slot batch before here.operation now turn.mirrors slot held)))
       (or_cases (is_slot_listed slot (list_now now).listed) (is_slot_held slot now.holds) taken)
     where
-      may_be_held : IsHeldSlot batch before here.operation slot → MayBeHeld batch before here.operation (length now.journal) slot
+      may_be_held : IsHeldSlot (round_of batch here.operation.round) before here.operation slot → MayBeHeld (round_of batch here.operation.round) before here.operation (length now.journal) slot
       may_be_held =
           let P : ℕ → Type 0 =
-          λ lanes. IsHeldSlot (record batch { lanes = lanes }) before here.operation slot → MayBeHeld (record batch { lanes = lanes }) before here.operation (length now.journal) slot in
+          λ lanes. IsHeldSlot (record (round_of batch here.operation.round) { lanes = lanes }) before here.operation slot → MayBeHeld (record (round_of batch here.operation.round) { lanes = lanes }) before here.operation (length now.journal) slot in
           subst P (sym turn.one_lane) (λ held. held)
 
   -- and the other way round
-  pub taken_slot : (slot : ℕ) → IsPassedOver batch before here.operation (length now.journal) slot → is_slot_taken now slot ≡ true
+  pub taken_slot : (slot : ℕ) → IsPassedOver (round_of batch here.operation.round) before here.operation (length now.journal) slot → is_slot_taken now slot ≡ true
   taken_slot slot passed =
       ⊎_elim
-      (λ (listed : IsTrue (is_slot_listed slot (list_at batch (length now.journal)).listed)).
+      (λ (listed : IsTrue (is_slot_listed slot (list_in batch (length now.journal)).listed)).
       or_left (is_slot_listed slot (list_now now).listed) (is_slot_held slot now.holds) (subst (λ (state : ListState). is_slot_listed slot state.listed ≡ true) turn.list_met listed))
-      (λ (may : MayBeHeld batch before here.operation (length now.journal) slot).
+      (λ (may : MayBeHeld (round_of batch here.operation.round) before here.operation (length now.journal) slot).
       or_right (is_slot_listed slot (list_now now).listed) (is_slot_held slot now.holds) (slot_held batch before here.operation now turn.mirrors slot (is_held may)))
       passed
     where
-      is_held : MayBeHeld batch before here.operation (length now.journal) slot → IsHeldSlot batch before here.operation slot
+      is_held : MayBeHeld (round_of batch here.operation.round) before here.operation (length now.journal) slot → IsHeldSlot (round_of batch here.operation.round) before here.operation slot
       is_held =
           let P : ℕ → Type 0 =
-          λ lanes. MayBeHeld (record batch { lanes = lanes }) before here.operation (length now.journal) slot → IsHeldSlot (record batch { lanes = lanes }) before here.operation slot in
+          λ lanes. MayBeHeld (record (round_of batch here.operation.round) { lanes = lanes }) before here.operation (length now.journal) slot → IsHeldSlot (record (round_of batch here.operation.round) { lanes = lanes }) before here.operation slot in
           subst P (sym turn.one_lane) (λ may. may)
 
   -- where every slot is taken, the list is full
-  pub filled : IsFilled now → IsFull batch before here.operation (length now.journal)
+  pub filled : IsFilled now → IsFull (round_of batch here.operation.round) before here.operation (length now.journal)
   filled all slot inside = passed_over slot (all slot (subst (λ (slots : ℕ). slot < slots) (sym turn.slots) inside))
