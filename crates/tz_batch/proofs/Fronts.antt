@@ -22,12 +22,12 @@ abbrev number_of : Edition → ℕ
 number_of edition = edition.n
 
 -- the front is listed
-front_is_listed : (es : List Edition) → 0 < length es → Contains es (front_of es)
+pub front_is_listed : (es : List Edition) → 0 < length es → Contains es (front_of es)
 front_is_listed [] some = absurd (omega (arith, some))
 front_is_listed (e ∷ es) some = (0, omega arith, refl)
 
 -- what is pushed up to a position is pushed
-pushed_later : (journal : List Write) (w : ℕ) (e : Edition) → Contains (pushes (take w journal)) e → Contains (pushes journal) e
+pub pushed_later : (journal : List Write) (w : ℕ) (e : Edition) → Contains (pushes (take w journal)) e → Contains (pushes journal) e
 pushed_later journal w e has =
     let parts : pushes (take w journal) ++ pushes (drop w journal) ≡ pushes journal = sym (flat_map-append (λ (write : Write). pushed_by write.change) (take w journal) (drop w journal)) ∙ ap pushes (take-append-drop w journal) in
     subst (λ (xs : List Edition). Contains xs e) parts (Contains-append_left (pushes (take w journal)) (pushes (drop w journal)) e has)

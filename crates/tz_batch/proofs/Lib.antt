@@ -9,3 +9,6 @@ pub mod FoundOnce
 pub mod LookupTexts
 pub mod RunTexts
 pub mod FirstRun
+pub mod LanePositions
+pub mod HeldSlots
+pub mod FullLists

@@ -9,3 +9,4 @@ pub mod Run
 pub mod Positions
 pub mod Fitting
 pub mod FirstLook
+pub mod Laws

@@ -1,5 +1,5 @@
 -- Which slots a push may pass over, and when none is left.
-use Rattle.std.specs.Prelude.{◌≡◌, ℕ, ◌≤◌, ◌<◌, ◌==◌, Bool, true, false, ◌⊎◌, List, IsTrue}
+use Rattle.std.specs.Prelude.{◌≡◌, ℕ, ◌≤◌, ◌<◌, ◌⊎◌, List, IsTrue}
 use Rattle.tz_script.specs.declared.holds.OpenHold.{OpenHold}
 use Rattle.tz_script.specs.declared.operation.Operation.{Operation}
 use Rattle.pin_book.specs.Replay.{is_slot_listed}
@@ -21,11 +21,8 @@ WasFrontSlot round w slot = (v : ℕ) × (round.start ≤ v) × (v ≤ w) × ((n
 -- A slot that a version may be kept in: with one lane that is told by its open holds, and with more a hold of another
 -- lane may have begun at any position of the round.
 abbrev pub MayBeHeld : Round → List Answered → Operation → ℕ → ℕ → Type 0
-MayBeHeld round before operation w slot = by_lanes (round.lanes == 1)
-  where
-    by_lanes : Bool → Type 0
-    by_lanes true = IsHeldSlot round before operation slot
-    by_lanes false = WasFrontSlot round w slot
+MayBeHeld round before operation w slot =
+    (round.lanes ≡ 1 → IsHeldSlot round before operation slot) × (¬ (round.lanes ≡ 1) → WasFrontSlot round w slot)
 
 -- the slot is passed over at a position: it is listed, or may be held
 abbrev pub IsPassedOver : Round → List Answered → Operation → ℕ → ℕ → Type 0

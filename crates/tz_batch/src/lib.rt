@@ -38,6 +38,7 @@ mod number;
 mod outcome;
 mod reply;
 mod row;
+mod run_laws;
 mod word;
 mod write_line;
 
@@ -49,6 +50,10 @@ pub use laws::{
 pub use listing::Listing;
 pub use outcome::{Outcome, outcome_text};
 pub use reply::Reply;
+pub use run_laws::{
+    a_full_list_has_few_slots, a_lane_never_looks_back, held_slots_were_the_fronts,
+    lanes_run_beside_each_other, positions_dont_fall_between_rounds, positions_of_a_lane_dont_fall,
+};
 
 #[cfg(test)]
 mod tests;

@@ -5,7 +5,7 @@ use Rattle.pin_book.specs.declared.write.Write.{Write}
 use Rattle.pin_book.specs.Replay.{ListState, front_of, is_slot_listed}
 use Rattle.tz_batch.specs.Batch.{Batch, Answered, answered}
 use Rattle.tz_batch.specs.Round.{Round, round_of, position_before}
-use Rattle.tz_batch.specs.PassedOver.{IsHeldSlot, MayBeHeld, IsPassedOver, IsFull}
+use Rattle.tz_batch.specs.PassedOver.{MayBeHeld, IsPassedOver, IsFull}
 use Rattle.tz_run.specs.Session.{Session, in_round, list_now, newest_now, is_slot_held, is_slot_taken, IsFilled}
 use Rattle.tz_run.specs.Serving.{Serves}
 use Rattle.tz_run.proofs.Served.{list_in, newest_in, IsServed}
@@ -79,14 +79,8 @@ module _ (batch : Batch) (before : List Answered) (here : Answered) (now after :
       ⊎_elim
       (λ (listed : is_slot_listed slot (list_now now).listed ≡ true).
       inl (subst (λ (state : ListState). IsTrue (is_slot_listed slot state.listed)) (sym turn.list_met) listed))
-      (λ (held : is_slot_held slot now.holds ≡ true). inr (may_be_held (held_slot batch before here.operation now turn.mirrors slot held)))
+      (λ (held : is_slot_held slot now.holds ≡ true). inr ((λ one. held_slot batch before here.operation now turn.mirrors slot held), (λ several. absurd (several turn.one_lane))))
       (or_cases (is_slot_listed slot (list_now now).listed) (is_slot_held slot now.holds) taken)
-    where
-      may_be_held : IsHeldSlot (round_of batch here.operation.round) before here.operation slot → MayBeHeld (round_of batch here.operation.round) before here.operation (length now.journal) slot
-      may_be_held =
-          let P : ℕ → Type 0 =
-          λ lanes. IsHeldSlot (record (round_of batch here.operation.round) { lanes = lanes }) before here.operation slot → MayBeHeld (record (round_of batch here.operation.round) { lanes = lanes }) before here.operation (length now.journal) slot in
-          subst P (sym turn.one_lane) (λ held. held)
 
   -- and the other way round
   pub taken_slot : (slot : ℕ) → IsPassedOver (round_of batch here.operation.round) before here.operation (length now.journal) slot → is_slot_taken now slot ≡ true
@@ -95,14 +89,8 @@ module _ (batch : Batch) (before : List Answered) (here : Answered) (now after :
       (λ (listed : IsTrue (is_slot_listed slot (list_in batch (length now.journal)).listed)).
       or_left (is_slot_listed slot (list_now now).listed) (is_slot_held slot now.holds) (subst (λ (state : ListState). is_slot_listed slot state.listed ≡ true) turn.list_met listed))
       (λ (may : MayBeHeld (round_of batch here.operation.round) before here.operation (length now.journal) slot).
-      or_right (is_slot_listed slot (list_now now).listed) (is_slot_held slot now.holds) (slot_held batch before here.operation now turn.mirrors slot (is_held may)))
+      or_right (is_slot_listed slot (list_now now).listed) (is_slot_held slot now.holds) (slot_held batch before here.operation now turn.mirrors slot (may.0 turn.one_lane)))
       passed
-    where
-      is_held : MayBeHeld (round_of batch here.operation.round) before here.operation (length now.journal) slot → IsHeldSlot (round_of batch here.operation.round) before here.operation slot
-      is_held =
-          let P : ℕ → Type 0 =
-          λ lanes. MayBeHeld (record (round_of batch here.operation.round) { lanes = lanes }) before here.operation (length now.journal) slot → IsHeldSlot (record (round_of batch here.operation.round) { lanes = lanes }) before here.operation slot in
-          subst P (sym turn.one_lane) (λ may. may)
 
   -- where every slot is taken, the list is full
   pub filled : IsFilled now → IsFull (round_of batch here.operation.round) before here.operation (length now.journal)
