@@ -12,3 +12,4 @@ pub mod FirstRun
 pub mod LanePositions
 pub mod HeldSlots
 pub mod FullLists
+pub mod TwoLanes

@@ -1,13 +1,15 @@
 -- Words for laws of runs.
-use Rattle.std.specs.Prelude.{◌≡◌, ℕ, ◌-◌, ◌≤◌, [], ◌∷◌, List, Some, slice_get, take, drop}
+use Rattle.std.specs.Prelude.{◌≡◌, ℕ, ◌-◌, ◌≤◌, ◌<◌, ◌⊎◌, [], ◌∷◌, List, Some, slice_get, take, drop, IsTrue}
 use Rattle.tz_script.specs.declared.operation.Op.TheVariants as ops
 use Rattle.tz_script.specs.declared.operation.Operation.{Operation}
 use Rattle.tz_script.specs.declared.script.Script.{Script}
 use Rattle.tz_version.specs.declared.sources.Sources.{Sources}
 use Rattle.pin_book.specs.declared.write.Change.TheVariants.{Push}
 use Rattle.pin_book.specs.declared.write.Write.{Write}
-use Rattle.tz_batch.specs.Batch.{Batch}
-use Rattle.tz_batch.specs.Round.{Round, newest_at}
+use Rattle.pin_book.specs.Replay.{is_slot_listed}
+use Rattle.tz_batch.specs.Batch.{Batch, Answered}
+use Rattle.tz_batch.specs.PassedOver.{IsHeldSlot}
+use Rattle.tz_batch.specs.Round.{Round, list_at, newest_at}
 use Rattle.tz_batch.specs.declared.answer.Answer.TheVariants as answers
 use Rattle.tz_batch.specs.declared.outcome.Outcome.{Outcome}
 use Rattle.tz_batch.specs.declared.reply.Reply.{Reply}
@@ -30,6 +32,12 @@ writes_between from to journal = take (to - from) (drop from journal)
 abbrev pub WasFrontInRound : Round → ℕ → Type 0
 WasFrontInRound round slot = (v : ℕ) × (round.start ≤ v) × (v ≤ round.end) × ((newest_at round v).slot ≡ slot)
 
+-- each slot of the list is listed at a position, or has a hold that is open in the operation's round
+abbrev pub IsTaken : Round → List Answered → Operation → ℕ → Type 0
+IsTaken round before operation w =
+    (slot : ℕ) → slot < round.slots
+    → IsTrue (is_slot_listed slot (list_at round w).listed) ⊎ IsHeldSlot round before operation slot
+
 -- ---- a reload in one lane beside two looks in another ----
 
 -- three operations: the first lane reloads source 1, and a lane looks twice
@@ -44,14 +52,14 @@ reload_beside_looks lane =
 abbrev pub one_push : List Write
 one_push = record { by = 0; seq = 1; change = Push 2 1 1 } ∷ []
 
-abbrev push_told : Reply
+abbrev pub push_told : Reply
 push_told = record { line = 3; w = 1; answer = answers.Pushed 2 1 }
 
 -- a look before the push, and one after it
-abbrev first_told : ℕ → Reply
+abbrev pub first_told : ℕ → Reply
 first_told line = record { line = line; w = 0; answer = answers.Front 1 0 }
 
-abbrev second_told : ℕ → Reply
+abbrev pub second_told : ℕ → Reply
 second_told line = record { line = line; w = 1; answer = answers.Front 2 1 }
 
 abbrev batch_with : Sources → ℕ → ℕ → List Reply → Batch

@@ -1,12 +1,12 @@
 //! What follows of any run, and two outcomes that show what sets runs of several lanes apart.
-ghost use Rattle.std.specs.Prelude.{◌≡◌, ℕ, ◌+◌, ◌<◌, ◌≤◌, length};
+ghost use Rattle.std.specs.Prelude.{◌≡◌, ℕ, ◌+◌, ◌-◌, ◌<◌, ◌≤◌, length};
 ghost use Rattle.tz_script.specs.declared.operation.Operation.{Operation as DeclaredOperation};
 ghost use Rattle.tz_script.specs.declared.script.Script.{Script as DeclaredScript};
 ghost use Rattle.tz_version.specs.declared.sources.Sources.{Sources as DeclaredSources};
 ghost use Rattle.pin_book.specs.Pushes.{pushes};
 ghost use Rattle.tz_batch.specs.Answering.{IsAccepted};
 ghost use Rattle.tz_batch.specs.Batch.{name_of_source};
-ghost use Rattle.tz_batch.specs.Laws.{IsReplied, batch_of, writes_between, WasFrontInRound, looks_around, looks_turned};
+ghost use Rattle.tz_batch.specs.Laws.{IsReplied, batch_of, writes_between, WasFrontInRound, IsTaken, looks_around, looks_turned};
 ghost use Rattle.tz_batch.specs.PassedOver.{IsHeldSlot};
 ghost use Rattle.tz_batch.specs.Round.{list_at};
 ghost use Rattle.tz_batch.specs.Run.{EachInTurn, IsRun, IsRunOf};
@@ -46,4 +46,11 @@ pub fn lanes_run_beside_each_other()
 /// A lane that has met the push doesn't meet an older list later on in the round.
 pub fn a_lane_never_looks_back()
     ensures { (sources : DeclaredSources) → ¬ (IsRunOf (looks_turned sources 2 2)) }
+{}
+
+/// With one lane a reload of another name is answered that the list is full exactly where each slot is listed or has an
+/// open hold: then it is, and a push has met the list otherwise.
+pub fn one_lane_is_full_where_no_slot_is_left()
+    ensures full { (script : DeclaredScript) (sources : DeclaredSources) (slots : ℕ) (outcome : DeclaredOutcome) → IsRun script sources slots outcome → script.lanes ≡ 1 → EachInTurn (batch_of script sources slots outcome) (λ round before here. here.reply.answer ≡ answers.Full → IsTaken round before here.operation here.reply.w) }
+    ensures pushed { (script : DeclaredScript) (sources : DeclaredSources) (slots : ℕ) (outcome : DeclaredOutcome) → IsRun script sources slots outcome → script.lanes ≡ 1 → EachInTurn (batch_of script sources slots outcome) (λ round before here. (n slot : ℕ) → here.reply.answer ≡ answers.Pushed n slot → ¬ (IsTaken round before here.operation (here.reply.w - 1))) }
 {}
