@@ -111,7 +111,6 @@ listed_there slot (e ∷ es) listed =
     (λ (later : is_slot_listed slot es ≡ true). let rest = listed_there slot es later in (rest.0, (suc rest.1.0, omega (arith, rest.1.1), rest.1.2), rest.2))
     (or_cases (e.slot == slot) (is_slot_listed slot es) listed)
 
-
 -- the slot of an element is among the slots
 slot_there : (es : List Edition) (e : Edition) → Contains es e → Contains (map (λ (it : Edition). it.slot) es) e.slot
 slot_there [] e (k, low, at) = absurd (omega (arith, low))

@@ -65,9 +65,9 @@ began number (here ∷ those) holds hold has =
     (λ (now : Contains (holds_in number holds here) hold).
     ⊎_elim
     (λ (old : Contains holds hold). inl old)
-    (λ (new : (here.operation.round ≡ number) × (here.operation.line ≡ hold.line)). inr (record { begun = here; has = (0, omega arith, refl); round = new.0; line = new.1; }))
+    (λ (new : (here.operation.round ≡ number) × (here.operation.line ≡ hold.line)). inr (record { begun = here; has = (0, omega arith, refl); round = new.0; line = new.1 }))
     (open_in number here holds hold now))
-    (λ (later : BeganIn number those hold). inr (record { begun = later.begun; has = (suc later.has.0, omega (arith, later.has.1), later.has.2); round = later.round; line = later.line; }))
+    (λ (later : BeganIn number those hold). inr (record { begun = later.begun; has = (suc later.has.0, omega (arith, later.has.1), later.has.2); round = later.round; line = later.line }))
     (began number those (holds_in number holds here) hold has)
 
 -- ---- lines ----

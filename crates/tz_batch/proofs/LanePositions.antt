@@ -26,10 +26,10 @@ pub parted : (operations : List Operation) (replies : List Reply) (j : ℕ) (q :
 parted [] replies j q y asked told = cc
 parted (o ∷ operations) [] j q y asked told = cc
 parted (o ∷ operations) (r ∷ replies) zero q y asked told =
-    record { front = []; behind = each_answered operations replies; is = let one = same_Some o q asked in let two = same_Some r y told in cc; }
+    record { front = []; behind = each_answered operations replies; is = let one = same_Some o q asked in let two = same_Some r y told in cc }
 parted (o ∷ operations) (r ∷ replies) (suc j) q y asked told =
     let rest = parted operations replies j q y asked told in
-    record { front = both o r ∷ rest.front; behind = rest.behind; is = ap (λ (more : List Answered). both o r ∷ more) rest.is; }
+    record { front = both o r ∷ rest.front; behind = rest.behind; is = ap (λ (more : List Answered). both o r ∷ more) rest.is }
 
 -- two operations do
 pub record PartedTwice (those : List Answered) (first second : Answered) : Type 0 where
@@ -54,7 +54,7 @@ parted_twice (o ∷ operations) (r ∷ replies) zero (suc j) p q x y low asked t
     }
 parted_twice (o ∷ operations) (r ∷ replies) (suc i) (suc j) p q x y low asked told asks tells =
     let rest = parted_twice operations replies i j p q x y (omega (arith, low)) asked told asks tells in
-    record { front = both o r ∷ rest.front; middle = rest.middle; behind = rest.behind; is = ap (λ (more : List Answered). both o r ∷ more) rest.is; }
+    record { front = both o r ∷ rest.front; middle = rest.middle; behind = rest.behind; is = ap (λ (more : List Answered). both o r ∷ more) rest.is }
 
 -- ---- the last position of a lane ----
 

@@ -68,21 +68,21 @@ module _ (sources : Sources) where
   pub two_lanes_run : IsAccepted sources 1 → ¬ (name_of_source sources 0 ≡ name_of_source sources 1) → IsRunOf (looks_around sources 2 2)
   two_lanes_run accepted other = record {
     replay = refl;
-    writes = record { same = same; counted = counted; no_others = refl; };
+    writes = record { same = same; counted = counted; no_others = refl };
     replies = record {
       one_each = refl;
       right = in_turn (of_round IsRightReply) _ _ _ (accepted, other, refl) (refl, refl) (refl, refl);
     };
     positions = in_turn (of_round HasPosition) _ _ _
-        (record { low = omega arith; high = omega arith; })
-        (record { low = omega arith; high = omega arith; })
-        (record { low = omega arith; high = omega arith; });
+        (record { low = omega arith; high = omega arith })
+        (record { low = omega arith; high = omega arith })
+        (record { low = omega arith; high = omega arith });
     slots = in_turn (of_round SlotsKeep) _ _ _
         (of_version (KeepsIt 1) (record { n = 2; slot = 1 }) refl)
         (of_version (KeepsIt 0) (record { n = 1; slot = 0 }) refl)
         (of_version (KeepsIt 1) (record { n = 2; slot = 1 }) refl);
     pushes = in_turn (of_round PassesOver) _ _ _
-        (record { lower = lower [] _; exact = λ one. cc; })
+        (record { lower = lower [] _; exact = λ one. cc })
         tt
         tt;
   }

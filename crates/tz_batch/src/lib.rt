@@ -52,7 +52,8 @@ pub use outcome::{Outcome, outcome_text};
 pub use reply::Reply;
 pub use run_laws::{
     a_full_list_has_few_slots, a_lane_never_looks_back, held_slots_were_the_fronts,
-    lanes_run_beside_each_other, one_lane_is_full_where_no_slot_is_left, positions_dont_fall_between_rounds, positions_of_a_lane_dont_fall,
+    lanes_run_beside_each_other, one_lane_is_full_where_no_slot_is_left,
+    positions_dont_fall_between_rounds, positions_of_a_lane_dont_fall,
 };
 
 #[cfg(test)]

@@ -127,9 +127,9 @@ outcome_is_run script first last replies (Ok outcome) opening slots served is =
 -- And its positions count the writes.
 pub outcome_counts : (script : Script) (first last : Session) (replies : List Reply) (made : Result Outcome NoMemory) → first ≡ opening_session first.sources first.slots first.room
     → AreServed first script.operations replies last → IfOk made (λ (outcome : Outcome). outcome ≡ record { journal = last.journal; replies = replies })
-    → IfOk made (λ (outcome : Outcome). PositionsCountWrites outcome.replies)
+    → IfOk made (λ (outcome : Outcome). PositionsCountWrites script.lanes outcome.replies)
 outcome_counts script first last replies (Err none) opening served is = tt
 outcome_counts script first last replies (Ok outcome) opening served is =
     let Q : Session → Type 0 = λ it. Leads it (each_answered script.operations replies) last in
-    let P : Outcome → Type 0 = λ it. PositionsCountWrites it.replies in
-    subst P (sym is) (positions_count script.operations replies first.sources first.slots first.room last served.0 (subst Q opening served.1))
+    let P : Outcome → Type 0 = λ it. PositionsCountWrites script.lanes it.replies in
+    subst P (sym is) (positions_count script.lanes script.operations replies first.sources first.slots first.room last served.0 (subst Q opening served.1))

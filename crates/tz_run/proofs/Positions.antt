@@ -168,6 +168,6 @@ counts (operation ∷ operations) (reply ∷ replies) (other ∷ before) later h
     omega (arith, behind, moved, told_cons other (before ++ here ∷ []))
 
 -- The positions of replies that lead from the opening on count the writes.
-pub positions_count : (operations : List Operation) (replies : List Reply) (sources : Sources) (slots room : ℕ) (last : Session) → length replies ≡ length operations → Leads (opening_session sources slots room) (each_answered operations replies) last → PositionsCountWrites replies
-positions_count operations replies sources slots room last long leads before later here is =
+pub positions_count : (lanes : ℕ) (operations : List Operation) (replies : List Reply) (sources : Sources) (slots room : ℕ) (last : Session) → length replies ≡ length operations → Leads (opening_session sources slots room) (each_answered operations replies) last → PositionsCountWrites lanes replies
+positions_count lanes operations replies sources slots room last long leads one before later here is =
     omega (arith, counts operations replies before later here (opening_session sources slots room) last long leads is)

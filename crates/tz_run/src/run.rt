@@ -80,7 +80,7 @@ fn run_at<G: Gate>(
     requires there { KeepsSources (length desk.sources.texts) script.now.operations }
     requires slots { FEWEST_SLOTS ≤ desk.slots }
     ensures run { IfOk result (λ outcome. IsRun script.now desk.entry.sources desk.entry.slots outcome) }
-    ensures positions { IfOk result (λ outcome. PositionsCountWrites outcome.replies) }
+    ensures positions { IfOk result (λ outcome. PositionsCountWrites script.now.lanes outcome.replies) }
 {
     let replies = serve_all(rt, alloc, script, gate, &mut desk)?;
     outcome_at(alloc, &desk, replies)
@@ -104,7 +104,7 @@ pub fn run_script<G: Gate>(
     requires slots { (FEWEST_SLOTS ≤ slots) × (slots ≤ MOST_SLOTS) }
     requires sources { KeepsSources (length sources.now.texts) script.now.operations }
     ensures run { IfOk result (λ outcome. IsRun script.now sources.now slots outcome) }
-    ensures positions { IfOk result (λ outcome. PositionsCountWrites outcome.replies) }
+    ensures positions { IfOk result (λ outcome. PositionsCountWrites script.now.lanes outcome.replies) }
     ensures leaps { (fault : Fault) → ¬ (result ≡ Err MakeError.NoMemory) → (result ≡ Err (MakeError.Leaps fault)) ↔ RefusesLeapText sources.now.leaps fault }
     ensures text { (fault : Fault) → ¬ (result ≡ Err MakeError.NoMemory) → (result ≡ Err (MakeError.Text fault)) ↔ RefusesSource sources.now 0 fault }
 {

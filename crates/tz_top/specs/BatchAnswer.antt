@@ -26,7 +26,7 @@ pub record IsBatchOutcome (slots : ℕ) (text : List ℕ) (sources : Sources) (o
   pub reads : ReadsScript (length sources.texts) text script
   pub opens : IsAccepted sources 0
   pub run : IsRun script sources slots outcome
-  pub positions : PositionsCountWrites outcome.replies
+  pub positions : PositionsCountWrites script.lanes outcome.replies
 
 -- The text is refused as a script that may name so many sources, and the line says with which fault.
 abbrev pub IsScriptRefusal : ℕ → List ℕ → List ℕ → Type 0

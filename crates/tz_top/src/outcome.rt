@@ -47,7 +47,7 @@ fn outcome_of<G: Gate>(
     requires slots { (FEWEST_SLOTS ≤ slots) × (slots ≤ MOST_SLOTS) }
     requires sources { KeepsSources (length sources.now.texts) script.now.operations }
     ensures run { IfOk result (λ outcome. IsRun script.now sources.now slots outcome) }
-    ensures positions { IfOk result (λ outcome. PositionsCountWrites outcome.replies) }
+    ensures positions { IfOk result (λ outcome. PositionsCountWrites script.now.lanes outcome.replies) }
     ensures opens { IfOk result (λ _. IsAccepted sources.now 0) }
     ensures refused { IfErr result (λ refusal. RefusesToOpen sources.now refusal) }
 {
