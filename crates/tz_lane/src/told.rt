@@ -1,0 +1,9 @@
+//! What an operation of a lane is told.
+
+use tz_batch::Answer;
+
+/// An answer, and the position that it tells of.
+pub struct Told {
+    pub w: u32,
+    pub answer: Answer,
+}
