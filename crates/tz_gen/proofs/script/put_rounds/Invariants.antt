@@ -1,0 +1,7 @@
+use Rattle.std.proofs.Common.{◌≡◌, ◌++◌}
+use Rattle.std.specs.List.{flat_map, range_with_len}
+use Rattle.tz_gen.specs.Generated.{bytes_of_lines, round_lines}
+use Rattle.tz_gen.proofs.script.put_rounds.Given as goal
+
+abbrev pub invariant-loop-before : goal.invariant-loop-before
+invariant-loop-before l = l.out.items ≡ l.initial.out.items ++ bytes_of_lines (flat_map (round_lines l.n) (range_with_len 1 l.before))
