@@ -3,7 +3,7 @@ use Rattle.std.proofs.Common.{◌≡◌, ℕ, List, ◌∷◌, ◌++◌, sym, �
 use Rattle.std.specs.Prelude.{codes}
 use Rattle.tz_script.specs.declared.operation.Pick.{Pick}
 use Rattle.pin_book.specs.Replay.{Edition}
-use Rattle.tz_batch.specs.OutcomeText.{version_text, found_text, answer_text}
+use Rattle.tz_batch.specs.OutcomeText.{version_text, finding_text, answer_text}
 use Rattle.tz_batch.specs.Fitting.{FitsAnswer}
 use Rattle.tz_batch.specs.Batch.{Answered}
 use Rattle.tz_batch.specs.Round.{Round}
@@ -11,7 +11,7 @@ use Rattle.tz_batch.specs.Held.{LooksInto}
 use Rattle.tz_batch.specs.Answering.{AnswersLookup}
 use Rattle.tz_batch.specs.declared.answer.Answer.{Answer}
 use Rattle.tz_batch.specs.declared.answer.Answer.TheVariants as answers
-use Rattle.tz_batch.specs.declared.found.Found.{Found}
+use Rattle.tz_lookup.specs.declared.found.Found.{Found}
 use Rattle.tz_batch.proofs.AnswerTexts.{version_before}
 
 on_same : (n slot m place : ℕ) (what that : Found) → n ≡ m → slot ≡ place → what ≡ that → answers.On n slot what ≡ answers.On m place that
@@ -57,6 +57,6 @@ lookup_settled p q before here there pick finds (answers.On n slot what) (answer
 lookup_settled p q before here there pick finds (answers.On n slot what) (answers.NotListed m place) looked once h k fits_x fits_y e = absurd k
 lookup_settled p q before here there pick finds (answers.On n slot what) (answers.Listed other) looked once h k fits_x fits_y e = absurd k
 lookup_settled p q before here there pick finds (answers.On n slot what) (answers.On m place that) looked once h k fits_x fits_y e =
-    let both = version_before n slot m place (found_text what) (found_text that) (fits_x.0, fits_x.1) (fits_y.0, fits_y.1) (sym (on_is_laid n slot (found_text what)) ∙ e ∙ on_is_laid m place (found_text that)) in
+    let both = version_before n slot m place (finding_text what) (finding_text that) (fits_x.0, fits_x.1) (fits_y.0, fits_y.1) (sym (on_is_laid n slot (finding_text what)) ∙ e ∙ on_is_laid m place (finding_text that)) in
     let src = looked h.0 k.0 h.1 k.1 (h.2.0 ∙ both.0 ∙ sym k.2.0) in
     on_same n slot m place what that both.0 both.1 (once h.0 k.0 what that src h.3 k.3)

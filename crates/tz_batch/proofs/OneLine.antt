@@ -13,17 +13,18 @@ use Rattle.tz_types.specs.declared.leap_info.LeapInfo.{LeapInfo}
 use Rattle.tz_types.specs.declared.range.SysInfo.{SysInfo}
 use Rattle.tz_types.specs.declared.range.LocalInfo.{LocalInfo}
 use Rattle.tz_types.specs.declared.range.LocalInfo.TheVariants.{Unique, Nonexistent, Ambiguous}
-use Rattle.tz_output.specs.Range.{shown, spaced, range_text}
-use Rattle.tz_output.specs.LocalInfo.{local_text}
-use Rattle.tz_output.specs.LeapInfo.{leap_text}
+use Rattle.tz_lookup.specs.Range.{shown, spaced, range_text}
+use Rattle.tz_lookup.specs.LocalInfo.{local_text}
+use Rattle.tz_lookup.specs.LeapInfo.{leap_text}
 use Rattle.tz_windows.specs.declared.scan.Scan.{Scan}
 use Rattle.pin_book.specs.declared.listed.Listed.{Listed}
-use Rattle.tz_batch.specs.OutcomeText.{after_space, after_slash, scan_text, found_text, version_text, of_several, refusal_text, row_text, answer_text}
+use Rattle.tz_lookup.specs.Found.{after_space, scan_text}
+use Rattle.tz_batch.specs.OutcomeText.{after_slash, finding_text, version_text, of_several, refusal_text, row_text, answer_text}
 use Rattle.tz_batch.specs.Fitting.{FitsWord, FitsCount, is_one_line, FitsRange, FitsLocal, FitsScan, FitsFound, FitsRow, FitsAnswer}
 use Rattle.tz_batch.specs.declared.answer.Answer.{Answer}
 use Rattle.tz_batch.specs.declared.answer.Answer.TheVariants as answers
-use Rattle.tz_batch.specs.declared.found.Found.{Found}
-use Rattle.tz_batch.specs.declared.found.Found.TheVariants as found
+use Rattle.tz_lookup.specs.declared.found.Found.{Found}
+use Rattle.tz_lookup.specs.declared.found.Found.TheVariants as found
 
 both_true : (a b : Bool) → a ≡ true → b ≡ true → (a && b) ≡ true
 both_true a b one two = rw (one, two) refl
@@ -127,7 +128,7 @@ scan_one scan h =
     (joined (codes " ") (signed_decimal scan.offsets) refl (signed_one scan.offsets h.offsets)))
     (after_space_one scan.changes h.changes)
 
-found_one : (what : Found) → FitsFound what → IsTrue (is_one_line (found_text what))
+found_one : (what : Found) → FitsFound what → IsTrue (is_one_line (finding_text what))
 found_one (found.Info range) h = joined (codes "info ") (range_text range) refl (range_one range h)
 found_one (found.Local info) h = local_one info h
 found_one (found.Sys t) h = joined (codes "sys ") (signed_decimal t) refl (signed_one t h)
@@ -186,4 +187,4 @@ answer_one (answers.Nothing n slot) h = behind_version_one n slot (codes " nothi
 answer_one (answers.NotListed n slot) h = behind_version_one n slot (codes " notlisted") h.0 h.1 refl
 answer_one (answers.Listed listing) h = joined (codes "list") (flat_map row_text listing.rows) refl (rows_one listing.rows h)
 answer_one (answers.On n slot what) h =
-    joined (version_text n slot ++ codes " ") (found_text what) (behind_version_one n slot (codes " ") h.0 h.1 refl) (found_one what h.2)
+    joined (version_text n slot ++ codes " ") (finding_text what) (behind_version_one n slot (codes " ") h.0 h.1 refl) (found_one what h.2)

@@ -14,8 +14,8 @@ use Rattle.tz_expand.proofs.SameZones.{same_lines, same_compiled}
 use Rattle.tz_version.specs.declared.sources.Sources.{Sources}
 use Rattle.tz_version.specs.Release.{Release, IsDatabaseOf, IsVersionOf, IsZoneCalled, LacksZone}
 use Rattle.tz_batch.specs.Finding.{FindsInZone}
-use Rattle.tz_batch.specs.declared.found.Found.{Found}
-use Rattle.tz_batch.specs.declared.found.Found.TheVariants as found
+use Rattle.tz_lookup.specs.declared.found.Found.{Found}
+use Rattle.tz_lookup.specs.declared.found.Found.TheVariants as found
 
 -- the source at a place is read as one database
 one_database_at : (texts : List Source) (src place : ℕ) (source other : Source) (db that : Db) → src ≡ place

@@ -21,7 +21,7 @@ use Rattle.tz_batch.specs.Held.{LooksInto}
 use Rattle.tz_batch.specs.Answering.{IsRightReply, AnswersInZone}
 use Rattle.tz_batch.specs.Run.{EachInTurn, IsRun}
 use Rattle.tz_batch.specs.declared.answer.Answer.{Answer}
-use Rattle.tz_batch.specs.declared.found.Found.{Found}
+use Rattle.tz_lookup.specs.declared.found.Found.{Found}
 use Rattle.tz_batch.specs.declared.outcome.Outcome.{Outcome}
 use Rattle.tz_batch.specs.declared.reply.Reply.{Reply}
 use Rattle.tz_batch.proofs.OutcomeTexts.{journal_settled, told_settled}

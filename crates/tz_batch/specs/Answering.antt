@@ -18,7 +18,7 @@ use Rattle.tz_batch.specs.Held.{IsHeldAs, LooksInto}
 use Rattle.tz_batch.specs.Finding.{FindsInfo, FindsLocal, FindsSys, FindsScan, FindsInZone, FindsByClock}
 use Rattle.tz_batch.specs.declared.answer.Answer.{Answer}
 use Rattle.tz_batch.specs.declared.answer.Answer.TheVariants as answers
-use Rattle.tz_batch.specs.declared.found.Found.{Found}
+use Rattle.tz_lookup.specs.declared.found.Found.{Found}
 
 -- the number and the slot are those of this version
 abbrev pub IsToldAs : Edition → ℕ → ℕ → Type 0

@@ -14,8 +14,8 @@ use Rattle.pin_book.specs.declared.write.Write.{Write}
 use Rattle.tz_batch.specs.OutcomeText.{answer_text}
 use Rattle.tz_batch.specs.declared.answer.Answer.{Answer}
 use Rattle.tz_batch.specs.declared.answer.Answer.TheVariants as answers
-use Rattle.tz_batch.specs.declared.found.Found.{Found}
-use Rattle.tz_batch.specs.declared.found.Found.TheVariants as found
+use Rattle.tz_lookup.specs.declared.found.Found.{Found}
+use Rattle.tz_lookup.specs.declared.found.Found.TheVariants as found
 use Rattle.tz_batch.specs.declared.outcome.Outcome.{Outcome}
 use Rattle.tz_batch.specs.declared.reply.Reply.{Reply}
 

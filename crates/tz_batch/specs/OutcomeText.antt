@@ -1,25 +1,18 @@
 -- How an outcome is printed, line by line. All numbers are decimal, and each line ends with a newline.
 use Rattle.std.specs.Prelude.{ℕ, zero, suc, ◌+◌, List, [], ◌∷◌, ◌++◌, length, codes}
 use Rattle.std.specs.List.{flat_map}
-use Rattle.std.specs.Fmt.{decimal, signed_decimal}
+use Rattle.std.specs.Fmt.{decimal}
 use Rattle.pin_book.specs.declared.listed.Listed.{Listed}
 use Rattle.pin_book.specs.declared.write.Change.{Change}
 use Rattle.pin_book.specs.declared.write.Change.TheVariants.{Push, Erase}
 use Rattle.pin_book.specs.declared.write.Write.{Write}
-use Rattle.tz_output.specs.Range.{range_text}
-use Rattle.tz_output.specs.LocalInfo.{local_text}
-use Rattle.tz_output.specs.LeapInfo.{leap_text}
-use Rattle.tz_windows.specs.declared.scan.Scan.{Scan}
+use Rattle.tz_lookup.specs.Found.{after_space, found_text}
 use Rattle.tz_batch.specs.declared.answer.Answer.{Answer}
 use Rattle.tz_batch.specs.declared.answer.Answer.TheVariants as answers
-use Rattle.tz_batch.specs.declared.found.Found.{Found}
-use Rattle.tz_batch.specs.declared.found.Found.TheVariants as found
+use Rattle.tz_lookup.specs.declared.found.Found.{Found}
+use Rattle.tz_lookup.specs.declared.found.Found.TheVariants as found
 use Rattle.tz_batch.specs.declared.outcome.Outcome.{Outcome}
 use Rattle.tz_batch.specs.declared.reply.Reply.{Reply}
-
--- a space and a number
-abbrev pub after_space : ℕ → List ℕ
-after_space number = codes " " ++ decimal number
 
 -- a slash and a number
 abbrev pub after_slash : ℕ → List ℕ
@@ -41,22 +34,16 @@ abbrev pub write_lines : ℕ → List Write → List ℕ
 write_lines w [] = []
 write_lines w (write ∷ later) = write_line w write ++ write_lines (suc w) later
 
--- `scan INSIDE OFFSETS CHANGES`
-unfoldable pub scan_text : Scan → List ℕ
-scan_text scan =
-    codes "scan" ++ after_space scan.inside ++ (codes " " ++ signed_decimal scan.offsets) ++ after_space scan.changes
+-- the word before what is found, where its spelling has none of its own
+abbrev pub finding_word : Found → List ℕ
+finding_word (found.Info range) = codes "info "
+finding_word (found.Clock count) = codes "clock "
+finding_word (found.Leap info) = codes "clock "
+finding_word _ = []
 
 -- what is found in a version
-abbrev pub found_text : Found → List ℕ
-found_text (found.Info range) = codes "info " ++ range_text range
-found_text (found.Local info) = local_text info
-found_text (found.Sys t) = codes "sys " ++ signed_decimal t
-found_text (found.Undecided info) = local_text info
-found_text (found.Scan scan) = scan_text scan
-found_text (found.Clock count) = codes "clock " ++ signed_decimal count
-found_text (found.Leap info) = codes "clock " ++ leap_text info
-found_text found.NoZone = codes "nozone"
-found_text found.Range = codes "range"
+abbrev pub finding_text : Found → List ℕ
+finding_text what = finding_word what ++ found_text what
 
 -- a version's number and its slot
 abbrev pub version_text : ℕ → ℕ → List ℕ
@@ -88,7 +75,7 @@ answer_text (answers.Erased n slot gone) = version_text n slot ++ codes " erased
 answer_text (answers.Nothing n slot) = version_text n slot ++ codes " nothing"
 answer_text (answers.NotListed n slot) = version_text n slot ++ codes " notlisted"
 answer_text (answers.Listed listing) = codes "list" ++ flat_map row_text listing.rows
-answer_text (answers.On n slot found) = version_text n slot ++ codes " " ++ found_text found
+answer_text (answers.On n slot found) = version_text n slot ++ codes " " ++ finding_text found
 
 -- `LINE @W` and the answer: the operation's line in the script, and the position
 unfoldable pub reply_line : Reply → List ℕ

@@ -1,13 +1,13 @@
 //! Answers to operations.
 ghost use Rattle.std.specs.Prelude.{◌≡◌, ◌++◌, codes, OnOk};
 ghost use Rattle.std.specs.List.{flat_map};
-ghost use Rattle.tz_batch.specs.OutcomeText.{version_text, of_several, refusal_text, row_text, after_space, answer_text, found_text};
+ghost use Rattle.tz_batch.specs.OutcomeText.{version_text, of_several, refusal_text, row_text, answer_text, finding_word, finding_text};
+ghost use Rattle.tz_lookup.specs.Found.{after_space};
 
-use crate::found::{Found, put_found};
 use crate::listing::Listing;
-use crate::number::{put_after_space, put_natural};
 use crate::row::put_rows;
 use crate::word::put_word;
+use tz_lookup::{Found, put_after_space, put_found, put_natural};
 use tz_types::NoMemory;
 
 /// What is answered to an operation. A version is told by its number `n` and its slot.
@@ -95,12 +95,31 @@ fn put_erased(out: &mut Vec<u8>, n: u32, slot: u32, gone: u32) -> Result<(), NoM
     put_after_space(out, gone)
 }
 
+/// The word before what is found, where its spelling has none of its own.
+fn finding_word(found: &Found) -> &'static [u8]
+    ensures { result.now ≡ finding_word found.now }
+{
+    match found {
+        Found::Info(_) => b"info ",
+        Found::Clock(_) | Found::Leap(_) => b"clock ",
+        _ => b"",
+    }
+}
+
+/// Puts what was found, behind its word, at the end of a text.
+fn put_finding(out: &mut Vec<u8>, found: &Found) -> Result<(), NoMemory>
+    ensures { OnOk result (out.new.items ≡ out.old.items ++ finding_text found.now) }
+{
+    out.extend_from_slice(finding_word(found))?;
+    put_found(out, found)
+}
+
 /// Puts a version, and what was found in it, at the end of a text.
 fn put_on(out: &mut Vec<u8>, n: u32, slot: u32, found: &Found) -> Result<(), NoMemory>
-    ensures { OnOk result (out.new.items ≡ out.old.items ++ (version_text n slot ++ codes " " ++ found_text found.now)) }
+    ensures { OnOk result (out.new.items ≡ out.old.items ++ (version_text n slot ++ codes " " ++ finding_text found.now)) }
 {
     put_word_last(out, n, slot, b" ")?;
-    put_found(out, found)
+    put_finding(out, found)
 }
 
 /// Puts a word and the versions that are listed at the end of a text.

@@ -27,14 +27,12 @@
 //! The text settles the journal, and of each reply the line, the position and the text of the answer; of a run of a
 //! script it settles the whole outcome (`laws`). Which outcomes a script may have is defined in specs/Run.antt, for any
 //! number of lanes and rounds: what the layer above promises, which runs scripts. The crate stands on `tz_script` for
-//! scripts, on `tz_version` for versions, on `pin_book` for the list, and on `tz_output` for spellings.
+//! scripts, on `tz_version` for versions, on `pin_book` for the list, and on `tz_lookup` for what is found and how it is spelled.
 #![tactic(auto)]
 
 mod answer;
-mod found;
 mod laws;
 mod listing;
-mod number;
 mod outcome;
 mod reply;
 mod row;
@@ -43,7 +41,6 @@ mod word;
 mod write_line;
 
 pub use answer::Answer;
-pub use found::Found;
 pub use laws::{
     a_look_has_a_run, texts_settle_journals, texts_settle_outcomes, texts_settle_what_replies_tell,
 };

@@ -3,11 +3,11 @@ ghost use Rattle.std.specs.Prelude.{◌≡◌, ◌++◌, length, codes, IfOk, On
 ghost use Rattle.std.specs.Fmt.{decimal};
 ghost use Rattle.tz_batch.specs.OutcomeText.{count_line, outcome_text};
 
-use crate::number::put_natural;
 use crate::reply::{Reply, put_replies};
 use crate::write_line::put_writes;
 use pin_book::Write;
 use std::alloc::Global;
+use tz_lookup::put_natural;
 use tz_types::{Items, NoMemory};
 
 /// What a batch gives: the journal, and one reply to each operation, in the order of the script's lines.

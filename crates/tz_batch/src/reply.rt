@@ -4,7 +4,7 @@ ghost use Rattle.std.specs.List.{flat_map};
 ghost use Rattle.tz_batch.specs.OutcomeText.{reply_line};
 
 use crate::answer::{Answer, put_answer};
-use crate::number::put_natural;
+use tz_lookup::put_natural;
 use tz_types::NoMemory;
 
 /// A reply: the line of the operation in the script, counted from 1, the position, which is how many writes stood then,

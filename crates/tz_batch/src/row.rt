@@ -3,8 +3,8 @@ ghost use Rattle.std.specs.Prelude.{◌≡◌, ◌++◌, OnOk};
 ghost use Rattle.std.specs.List.{flat_map};
 ghost use Rattle.tz_batch.specs.OutcomeText.{after_slash, row_text};
 
-use crate::number::{put_after_space, put_natural};
 use pin_book::Listed;
+use tz_lookup::{put_after_space, put_natural};
 use tz_types::NoMemory;
 
 /// Puts a slash and a number at the end of a text.

@@ -1,9 +1,10 @@
 //! Outcomes, each with its text.
-use crate::{Answer, Found, Listing, Outcome, Reply, outcome_text};
+use crate::{Answer, Listing, Outcome, Reply, outcome_text};
 use pin_book::{Change, Listed, MOST_SLOTS, Write};
 use std::alloc::{AllocError, Global};
 use std::process::Abort;
 use std::test::Fail;
+use tz_lookup::Found;
 use tz_types::{Abbrev, Items, LeapInfo, LocalInfo, NoMemory, SysInfo, VersionText};
 use tz_windows::Scan;
 

@@ -1,9 +1,10 @@
 //! The lines of a journal's writes.
 ghost use Rattle.std.specs.Prelude.{◌≡◌, ◌+◌, ◌++◌, OnOk};
-ghost use Rattle.tz_batch.specs.OutcomeText.{after_space, change_text, write_line, write_lines};
+ghost use Rattle.tz_lookup.specs.Found.{after_space};
+ghost use Rattle.tz_batch.specs.OutcomeText.{change_text, write_line, write_lines};
 
-use crate::number::{put_after_space, put_natural};
 use pin_book::{Change, Write};
+use tz_lookup::{put_after_space, put_natural};
 use tz_types::NoMemory;
 
 /// Puts a push at the end of a text.

@@ -7,7 +7,8 @@ use Rattle.tz_types.specs.declared.source.Source.{Source}
 use Rattle.tz_types.specs.declared.database.Db.{Db}
 use Rattle.tz_specs.specs.Reads.{Reads}
 use Rattle.tz_lines.specs.Locate.{located}
-use Rattle.tz_cli.specs.Dump.{AreAskedFor, IsThere, IsMissing, IsDumped, IsOutOfDump}
+use Rattle.tz_cli.specs.SourceAnswer.{IsThere, IsMissing, IsOutOfRange}
+use Rattle.tz_cli.specs.Dump.{AreAskedFor, IsDumped}
 
 -- the one zone at a place
 pub one_asked : (db : Db) (name : List ℕ) (place : ℕ) → located db name ≡ Some place → place < length db.zones → AreAskedFor db (Some name) (take 1 (drop place db.zones))
@@ -30,6 +31,6 @@ pub asked_there : (db : Db) (asked : Option (List ℕ)) (zones : List Zone) → 
 asked_there db None zones are = tt
 asked_there db (Some name) zones are = rw are.2 refl
 
-pub out_of_dump : (source : Source) (from to : ℤ) (asked : Option (List ℕ)) (db : Db) (zones : List Zone) → Reads source db → AreAskedFor db asked zones → (IsDumped asked from to → ⊥) → IsOutOfDump source from to asked
+pub out_of_dump : (source : Source) (from to : ℤ) (asked : Option (List ℕ)) (db : Db) (zones : List Zone) → Reads source db → AreAskedFor db asked zones → (IsDumped asked from to → ⊥) → IsOutOfRange source asked (IsDumped asked from to)
 out_of_dump source from to asked db zones reads are outside =
     record { db = db; reads = reads; there = asked_there db asked zones are; outside = outside }

@@ -13,18 +13,19 @@ use Rattle.tz_words.specs.declared.status.Status.TheVariants as statuses
 use Rattle.tz_cli.specs.declared.refusal.Refusal.{Refusal}
 use Rattle.tz_cli.specs.declared.refusal.Refusal.TheVariants as refusals
 use Rattle.tz_cli.proofs.Contents.{same_contents, too_much, some_failed}
+use Rattle.tz_cli.proofs.Lookups.{never_usage}
 use Rattle.tz_cli.proofs.Once.{once, sized}
 
 -- no command answers that the words are those of none
 no_usage : (command : Command) (contents : List (List ℕ)) (line : List ℕ) → TextAnswers command contents statuses.Usage line → ⊥
-no_usage (Info text zone t) contents line answer = answer.2
-no_usage (Local text zone l choice) contents line answer = answer.2
-no_usage (Moves text zone from to) contents line answer = answer.2.is
-no_usage (Days text zone first count) contents line answer = answer.2.is
-no_usage (Tzif text zone first last) contents line answer = answer.2.is
-no_usage (Dump text from to zone) contents line answer = answer.2
+no_usage (Info text zone t) contents line answer = never_usage answer.2.1.is.0 answer.2.1.is.2
+no_usage (Local text zone l choice) contents line answer = never_usage answer.2.1.is.0 answer.2.1.is.2
+no_usage (Moves text zone from to) contents line answer = answer.2.1.is
+no_usage (Days text zone first count) contents line answer = answer.2.1.is
+no_usage (Tzif text zone first last) contents line answer = answer.2.1.is
+no_usage (Dump text from to zone) contents line answer = answer.2.1
 no_usage (Check text) contents line answer = answer.2
-no_usage (Clock leaps conversion number) contents line answer = answer
+no_usage (Clock leaps conversion number) contents line answer = never_usage answer.0 answer.2
 
 pub usage_not_due : (command : Command) (before after : FilesState) (line : List ℕ) → IsDueFor command before after statuses.Usage line → ⊥
 usage_not_due command before after line due = no_usage command due.0 line due.2.1

@@ -1,8 +1,7 @@
 pub mod Texts
-pub mod InfoLine
 pub mod Contents
-pub mod ClockLine
 pub mod Asked
+pub mod SourceAnswer
 pub mod ZoneAnswer
 pub mod DayLines
 pub mod ZoneFiles
@@ -12,4 +11,4 @@ pub mod Dumps
 pub mod Waiting
 pub mod Outputs
 pub mod NamedZone
-pub mod LocalLine
+pub mod Lookups

@@ -1,51 +1,43 @@
 -- Words are those of one command at most, and a command has one status over contents: the reasons exclude each other.
-use Rattle.std.proofs.Common.{◌≡◌, ℕ, nat_eq, true, false, ◌<◌, ◌≤◌, ◌⊎◌, inl, inr, List, [], ◌∷◌, length, codes, Option, Some, None, find, slice_get, refl, sym, ap, ◌∙◌, subst, arith, ℤ}
+use Rattle.std.proofs.Common.{◌≡◌, ℕ, nat_eq, true, false, ◌<◌, ◌≤◌, ◌⊎◌, inl, inr, List, [], ◌∷◌, length, codes, Option, Some, find, refl, sym, ap, ◌∙◌, subst, arith, ℤ}
 use mathlib.Core.HLevel.{is_prop→PathP}
 use Rattle.std.proofs.Props.{props}
 use Rattle.std.specs.Cmp.Lexicographic.{pointwise}
 use Rattle.std.specs.List.{concat}
 use Rattle.tz_types.specs.declared.limit.TheConstants.{MOST_BYTES, MOST_FILES}
 use Rattle.tz_types.specs.Source.{bytes_together}
-use Rattle.tz_types.specs.declared.leaps.Leaps.{Leaps}
-use Rattle.tz_types.specs.declared.range.LocalInfo.{LocalInfo}
-use Rattle.tz_types.specs.declared.zone.Zone.{Zone}
 use Rattle.tz_types.specs.declared.source.Source.{Source}
 use Rattle.tz_types.specs.declared.database.Db.{Db}
-use Rattle.tz_specs.specs.Expansion.{periods_of, full_expansion}
-use Rattle.tz_specs.specs.Local.{local_info}
 use Rattle.tz_specs.specs.Reads.{Reads}
 use Rattle.tz_specs.specs.Number.{signed_number_of}
-use Rattle.tz_specs.specs.LeapText.{ReadsLeaps}
-use Rattle.tz_output.specs.Choice.{choice_word}
-use Rattle.tz_output.specs.Conversion.{conversion_word}
-use Rattle.tz_cli.specs.Conversion.{IsConvertible}
+use Rattle.tz_lookup.specs.Choice.{choice_word}
+use Rattle.tz_lookup.specs.Conversion.{conversion_word}
 use Rattle.tz_words.specs.Command.{Command, Info, Local, Moves, Days, Tzif, Dump, Check, Clock, IsCommand, day_count_of, short_year_of}
-use Rattle.tz_cli.specs.Info.{InfoAnswers}
 use Rattle.tz_text.specs.LocalTime.{local_time_of}
-use Rattle.tz_cli.specs.Local.{HasLocalInfo, IsLocalLine, LocalAnswers}
 use Rattle.tz_cli.specs.Moves.{AreMovesOf, MovesAnswers}
 use Rattle.tz_expand.specs.Stretch.{IsStretch}
 use Rattle.tz_expand.specs.declared.compiled_zone.CompiledZone.{CompiledZone}
 use Rattle.tz_cli.specs.Days.{AreDays, AreDaysOf, DaysAnswers}
 use Rattle.tz_cli.specs.Tzif.{AreYears, IsFileOf, TzifAnswers}
-use Rattle.tz_cli.specs.Dump.{IsThere, IsMissing, DumpAnswers, asked_for}
+use Rattle.tz_cli.specs.SourceAnswer.{IsThere}
+use Rattle.tz_cli.specs.Dump.{IsDumped, IsDumpAt, DumpAnswers, asked_for}
 use Rattle.tz_cli.specs.Check.{CheckAnswers}
-use Rattle.tz_cli.specs.Clock.{ClockAnswers}
+use Rattle.tz_specs.specs.Expansion.{IsInstant}
+use Rattle.tz_local.specs.LocalTime.{IsLocalTime}
+use Rattle.tz_cli.specs.Lookup.{InfoAnswers, LocalAnswers, IsFoundByChoice}
+use Rattle.tz_lookup.specs.Finding.{IsInfoFound}
+use Rattle.tz_lookup.proofs.FoundOnce as lookups
+use Rattle.tz_cli.proofs.Lookups.{lookup_once, by_choice_once, clock_once}
+use Rattle.tz_cli.proofs.SourceAnswer.{answers_once}
 use Rattle.tz_words.specs.NamedText.{NamedText, named_text_of, IsSourceOf}
 use Rattle.tz_cli.specs.Answer.{TextAnswers, IsAnswer, OfSource}
-use Rattle.tz_output.specs.declared.choice.Choice.{Choice}
-use Rattle.tz_output.specs.declared.choice.Choice.TheVariants as choices
-use Rattle.tz_output.specs.declared.conversion.Conversion.{Conversion}
-use Rattle.tz_output.specs.declared.conversion.Conversion.TheVariants as conversions
+use Rattle.tz_lookup.specs.declared.choice.Choice.{Choice}
+use Rattle.tz_lookup.specs.declared.choice.Choice.TheVariants as choices
+use Rattle.tz_lookup.specs.declared.conversion.Conversion.{Conversion}
+use Rattle.tz_lookup.specs.declared.conversion.Conversion.TheVariants as conversions
 use Rattle.tz_words.specs.declared.status.Status.{Status}
 use Rattle.tz_words.specs.declared.status.Status.TheVariants as statuses
 use Rattle.tz_specs.proofs.TextLemmas.{read_isnt_refused}
-use Rattle.tz_specs.proofs.LeapTextLemmas.{one_leap_table, read_leaps_are_not_refused}
-use Rattle.tz_specs.proofs.SameDatabase.{one_database}
-use Rattle.tz_lines.specs.Locate.{located}
-use Rattle.tz_local.specs.Choice.{IsNotUnique}
-use Rattle.tz_local.proofs.InstantLemmas.{decided}
-use Rattle.tz_cli.proofs.Texts.{some_not_none}
 use Rattle.tz_cli.proofs.Asked.{asked_there}
 use Rattle.tz_cli.proofs.ZoneAnswer.{zone_once}
 use Rattle.tz_cli.proofs.ZoneFiles.{one_file}
@@ -215,99 +207,12 @@ one_command words (Clock leaps conversion count) other first second =
     absurd (differ (keyword (Clock leaps conversion count)) (keyword other) (one_keyword words (Clock leaps conversion count) other first second) refl refl)
 
 info_once : (source : Source) (name : List ℕ) (t : ℤ) (r s : Status) (line other : List ℕ) → InfoAnswers source name t r line → InfoAnswers source name t s other → r ≡ s
-info_once source name t statuses.Ok statuses.Ok line other a b = refl
-info_once source name t statuses.Ok statuses.Text line other a b = absurd (read_isnt_refused source a.db b.0 a.reads b.1)
-info_once source name t statuses.Ok statuses.NoZone line other a b =
-    absurd (some_not_none source name a.db b.0.db a.reads b.0.reads (rw a.named refl) b.0.none)
-info_once source name t statuses.Ok statuses.Range line other a b = absurd (b.0.outside a.inside)
-info_once source name t statuses.Ok s line other a b = absurd b
-info_once source name t statuses.Text statuses.Ok line other a b = absurd (read_isnt_refused source b.db a.0 b.reads a.1)
-info_once source name t statuses.Text statuses.Text line other a b = refl
-info_once source name t statuses.Text statuses.NoZone line other a b =
-    absurd (read_isnt_refused source b.0.db a.0 b.0.reads a.1)
-info_once source name t statuses.Text statuses.Range line other a b =
-    absurd (read_isnt_refused source b.0.db a.0 b.0.reads a.1)
-info_once source name t statuses.Text s line other a b = absurd b
-info_once source name t statuses.NoZone statuses.Ok line other a b =
-    absurd (some_not_none source name b.db a.0.db b.reads a.0.reads (rw b.named refl) a.0.none)
-info_once source name t statuses.NoZone statuses.Text line other a b =
-    absurd (read_isnt_refused source a.0.db b.0 a.0.reads b.1)
-info_once source name t statuses.NoZone statuses.NoZone line other a b = refl
-info_once source name t statuses.NoZone statuses.Range line other a b =
-    absurd (some_not_none source name b.0.db a.0.db b.0.reads a.0.reads b.0.there a.0.none)
-info_once source name t statuses.NoZone s line other a b = absurd b
-info_once source name t statuses.Range statuses.Ok line other a b = absurd (a.0.outside b.inside)
-info_once source name t statuses.Range statuses.Text line other a b =
-    absurd (read_isnt_refused source a.0.db b.0 a.0.reads b.1)
-info_once source name t statuses.Range statuses.NoZone line other a b =
-    absurd (some_not_none source name a.0.db b.0.db a.0.reads b.0.reads a.0.there b.0.none)
-info_once source name t statuses.Range statuses.Range line other a b = refl
-info_once source name t statuses.Range s line other a b = absurd b
-info_once source name t r s line other a b = absurd a
-
--- a source tells one thing of a local time
-same_local_info : (source : Source) (name : List ℕ) (l : ℤ) (a b : LocalInfo) → HasLocalInfo source name l a → HasLocalInfo source name l b → a ≡ b
-same_local_info source name l a b first second =
-    let dbs : first.db ≡ second.db = one_database source first.db second.db first.reads second.reads in
-    let places : Some first.place ≡ Some second.place = sym first.named ∙ ap (λ (db : Db). located db name) dbs ∙ second.named in
-    let place : first.place ≡ second.place = cc in
-    let zones : Some first.zone ≡ Some second.zone = sym first.there ∙ ap (λ (db : Db). slice_get db.zones first.place) dbs ∙ ap (λ (place : ℕ). slice_get second.db.zones place) place ∙ second.there in
-    let zone : first.zone ≡ second.zone = cc in
-    let told : Some a ≡ Some b = sym first.told ∙ ap (λ (db : Db). local_info (full_expansion (periods_of db first.zone)) l) dbs ∙ ap (λ (zone : Zone). local_info (full_expansion (periods_of second.db zone)) l) zone ∙ second.told in cc
-
--- with no choice a time has an instant only where one range shows it
-not_undecided : (choice : Choice) (info : LocalInfo) (l : ℤ) (line : List ℕ) → IsLocalLine choice info l line → choice ≡ choices.Strict → IsNotUnique info → ⊥
-not_undecided choices.None info l line is strict not_unique = cc
-not_undecided choices.Strict info l line is strict not_unique = decided info l is.0 None is.1 refl not_unique
-not_undecided choices.Earliest info l line is strict not_unique = cc
-not_undecided choices.Latest info l line is strict not_unique = cc
+info_once source name t r s line other a b =
+    lookup_once source name (IsInstant t) (λ ranges. IsInfoFound ranges t) r s line other (lookups.info_once t) a b
 
 local_once : (source : Source) (name : List ℕ) (l : ℤ) (choice : Choice) (r s : Status) (line other : List ℕ) → LocalAnswers source name l choice r line → LocalAnswers source name l choice s other → r ≡ s
-local_once source name l choice statuses.Ok statuses.Ok line other a b = refl
-local_once source name l choice statuses.Ok statuses.Text line other a b = absurd (read_isnt_refused source a.1.db b.0 a.1.reads b.1)
-local_once source name l choice statuses.Ok statuses.NoZone line other a b =
-    absurd (some_not_none source name a.1.db b.0.db a.1.reads b.0.reads (rw a.1.named refl) b.0.none)
-local_once source name l choice statuses.Ok statuses.Range line other a b = absurd (b.0.outside a.1.inside)
-local_once source name l choice statuses.Ok statuses.Local line other a b =
-    let same = same_local_info source name l b.0 a.0 b.1 a.1 in
-    absurd (not_undecided choice a.0 l line a.2 b.2.0 (subst IsNotUnique same b.2.1))
-local_once source name l choice statuses.Ok s line other a b = absurd b
-local_once source name l choice statuses.Text statuses.Ok line other a b = absurd (read_isnt_refused source b.1.db a.0 b.1.reads a.1)
-local_once source name l choice statuses.Text statuses.Text line other a b = refl
-local_once source name l choice statuses.Text statuses.NoZone line other a b =
-    absurd (read_isnt_refused source b.0.db a.0 b.0.reads a.1)
-local_once source name l choice statuses.Text statuses.Range line other a b =
-    absurd (read_isnt_refused source b.0.db a.0 b.0.reads a.1)
-local_once source name l choice statuses.Text statuses.Local line other a b = absurd (read_isnt_refused source b.1.db a.0 b.1.reads a.1)
-local_once source name l choice statuses.Text s line other a b = absurd b
-local_once source name l choice statuses.NoZone statuses.Ok line other a b =
-    absurd (some_not_none source name b.1.db a.0.db b.1.reads a.0.reads (rw b.1.named refl) a.0.none)
-local_once source name l choice statuses.NoZone statuses.Text line other a b =
-    absurd (read_isnt_refused source a.0.db b.0 a.0.reads b.1)
-local_once source name l choice statuses.NoZone statuses.NoZone line other a b = refl
-local_once source name l choice statuses.NoZone statuses.Range line other a b =
-    absurd (some_not_none source name b.0.db a.0.db b.0.reads a.0.reads b.0.there a.0.none)
-local_once source name l choice statuses.NoZone statuses.Local line other a b =
-    absurd (some_not_none source name b.1.db a.0.db b.1.reads a.0.reads (rw b.1.named refl) a.0.none)
-local_once source name l choice statuses.NoZone s line other a b = absurd b
-local_once source name l choice statuses.Range statuses.Ok line other a b = absurd (a.0.outside b.1.inside)
-local_once source name l choice statuses.Range statuses.Text line other a b =
-    absurd (read_isnt_refused source a.0.db b.0 a.0.reads b.1)
-local_once source name l choice statuses.Range statuses.NoZone line other a b =
-    absurd (some_not_none source name a.0.db b.0.db a.0.reads b.0.reads a.0.there b.0.none)
-local_once source name l choice statuses.Range statuses.Range line other a b = refl
-local_once source name l choice statuses.Range statuses.Local line other a b = absurd (a.0.outside b.1.inside)
-local_once source name l choice statuses.Range s line other a b = absurd b
-local_once source name l choice statuses.Local statuses.Ok line other a b =
-    let same = same_local_info source name l a.0 b.0 a.1 b.1 in
-    absurd (not_undecided choice b.0 l other b.2 a.2.0 (subst IsNotUnique same a.2.1))
-local_once source name l choice statuses.Local statuses.Text line other a b = absurd (read_isnt_refused source a.1.db b.0 a.1.reads b.1)
-local_once source name l choice statuses.Local statuses.NoZone line other a b =
-    absurd (some_not_none source name a.1.db b.0.db a.1.reads b.0.reads (rw a.1.named refl) b.0.none)
-local_once source name l choice statuses.Local statuses.Range line other a b = absurd (b.0.outside a.1.inside)
-local_once source name l choice statuses.Local statuses.Local line other a b = refl
-local_once source name l choice statuses.Local s line other a b = absurd b
-local_once source name l choice r s line other a b = absurd a
+local_once source name l choice r s line other a b =
+    lookup_once source name (IsLocalTime l) (IsFoundByChoice choice l) r s line other (by_choice_once choice l) a b
 
 -- moves are answered with one status
 moves_told : (from to : ℤ) (a b : CompiledZone) (r s : Status) (line other : List ℕ) → AreMovesOf from to a r line → AreMovesOf from to b s other → r ≡ s
@@ -332,46 +237,18 @@ tzif_once : (source : Source) (name : List ℕ) (first last : ℤ) (r s : Status
 tzif_once source name first last r s line other a b =
     zone_once source name (AreYears first last) (IsFileOf first last) r s line other (λ one two here there. one_file source name first last one two r s line other here there) a b
 
-not_missing : (source : Source) (asked : Option (List ℕ)) (db : Db) → Reads source db → IsThere db asked → IsMissing source asked → ⊥
-not_missing source None db reads there missing = missing
-not_missing source (Some name) db reads there missing = some_not_none source name db missing.db reads missing.reads there missing.none
+dump_told : (source : Source) (from to : ℤ) (asked : Option (List ℕ)) (r s : Status) (line other : List ℕ) → IsDumpAt source from to asked r line → IsDumpAt source from to asked s other → r ≡ s
+dump_told source from to asked statuses.Ok statuses.Ok line other a b = refl
+dump_told source from to asked statuses.Ok s line other a b = absurd b
+dump_told source from to asked r s line other a b = absurd a
 
-missing_reads : (source : Source) (asked : Option (List ℕ)) → IsMissing source asked → (db : Db) × Reads source db
-missing_reads source None missing = absurd missing
-missing_reads source (Some name) missing = (missing.db, missing.reads)
+dump_has : (source : Source) (from to : ℤ) (asked : Option (List ℕ)) (status : Status) (line : List ℕ) → IsDumpAt source from to asked status line → (db : Db) × Reads source db × IsThere db asked
+dump_has source from to asked statuses.Ok line is = (is.db, is.reads, asked_there is.db asked is.zones is.are)
+dump_has source from to asked status line is = absurd is
 
 dump_once : (source : Source) (from to : ℤ) (asked : Option (List ℕ)) (r s : Status) (line other : List ℕ) → DumpAnswers source from to asked r line → DumpAnswers source from to asked s other → r ≡ s
-dump_once source from to asked statuses.Ok statuses.Ok line other a b = refl
-dump_once source from to asked statuses.Ok statuses.Text line other a b = absurd (read_isnt_refused source a.db b.0 a.reads b.1)
-dump_once source from to asked statuses.Ok statuses.NoZone line other a b =
-    absurd (not_missing source asked a.db a.reads (asked_there a.db asked a.zones a.are) b.0)
-dump_once source from to asked statuses.Ok statuses.Range line other a b = absurd (b.0.outside a.dumped)
-dump_once source from to asked statuses.Ok s line other a b = absurd b
-dump_once source from to asked statuses.Text statuses.Ok line other a b = absurd (read_isnt_refused source b.db a.0 b.reads a.1)
-dump_once source from to asked statuses.Text statuses.Text line other a b = refl
-dump_once source from to asked statuses.Text statuses.NoZone line other a b =
-    let read = missing_reads source asked b.0 in
-    absurd (read_isnt_refused source read.0 a.0 read.1 a.1)
-dump_once source from to asked statuses.Text statuses.Range line other a b =
-    absurd (read_isnt_refused source b.0.db a.0 b.0.reads a.1)
-dump_once source from to asked statuses.Text s line other a b = absurd b
-dump_once source from to asked statuses.NoZone statuses.Ok line other a b =
-    absurd (not_missing source asked b.db b.reads (asked_there b.db asked b.zones b.are) a.0)
-dump_once source from to asked statuses.NoZone statuses.Text line other a b =
-    let read = missing_reads source asked a.0 in
-    absurd (read_isnt_refused source read.0 b.0 read.1 b.1)
-dump_once source from to asked statuses.NoZone statuses.NoZone line other a b = refl
-dump_once source from to asked statuses.NoZone statuses.Range line other a b =
-    absurd (not_missing source asked b.0.db b.0.reads b.0.there a.0)
-dump_once source from to asked statuses.NoZone s line other a b = absurd b
-dump_once source from to asked statuses.Range statuses.Ok line other a b = absurd (a.0.outside b.dumped)
-dump_once source from to asked statuses.Range statuses.Text line other a b =
-    absurd (read_isnt_refused source a.0.db b.0 a.0.reads b.1)
-dump_once source from to asked statuses.Range statuses.NoZone line other a b =
-    absurd (not_missing source asked a.0.db a.0.reads a.0.there b.0)
-dump_once source from to asked statuses.Range statuses.Range line other a b = refl
-dump_once source from to asked statuses.Range s line other a b = absurd b
-dump_once source from to asked r s line other a b = absurd a
+dump_once source from to asked r s line other a b =
+    answers_once source asked (IsDumped asked from to) (IsDumpAt source from to asked) r s line other (dump_has source from to asked) (dump_told source from to asked r s line other) a b
 
 check_once : (source : Source) (r s : Status) (line other : List ℕ) → CheckAnswers source r line → CheckAnswers source s other → r ≡ s
 check_once source statuses.Ok statuses.Ok line other a b = refl
@@ -381,28 +258,6 @@ check_once source statuses.Text statuses.Ok line other a b = absurd (read_isnt_r
 check_once source statuses.Text statuses.Text line other a b = refl
 check_once source statuses.Text s line other a b = absurd b
 check_once source r s line other a b = absurd a
-
--- a number is in range of one table or of none
-convertible_same : (text : List ℕ) (conversion : Conversion) (a b : Leaps) (number : ℤ) → ReadsLeaps text a → ReadsLeaps text b → IsConvertible conversion a number → IsConvertible conversion b number
-convertible_same text conversion a b number first second inside =
-    subst (λ it. IsConvertible conversion it number) (one_leap_table text a b first second) inside
-
-clock_once : (text : List ℕ) (conversion : Conversion) (number : ℤ) (r s : Status) (line other : List ℕ) → ClockAnswers text conversion number r line → ClockAnswers text conversion number s other → r ≡ s
-clock_once text conversion number statuses.Ok statuses.Ok line other a b = refl
-clock_once text conversion number statuses.Ok statuses.Text line other a b = absurd (read_leaps_are_not_refused text a.leaps b.0 a.reads b.1)
-clock_once text conversion number statuses.Ok statuses.Range line other a b =
-    absurd (b.0.outside (convertible_same text conversion a.leaps b.0.leaps number a.reads b.0.reads a.inside))
-clock_once text conversion number statuses.Ok s line other a b = absurd b
-clock_once text conversion number statuses.Text statuses.Ok line other a b = absurd (read_leaps_are_not_refused text b.leaps a.0 b.reads a.1)
-clock_once text conversion number statuses.Text statuses.Text line other a b = refl
-clock_once text conversion number statuses.Text statuses.Range line other a b = absurd (read_leaps_are_not_refused text b.0.leaps a.0 b.0.reads a.1)
-clock_once text conversion number statuses.Text s line other a b = absurd b
-clock_once text conversion number statuses.Range statuses.Ok line other a b =
-    absurd (a.0.outside (convertible_same text conversion b.leaps a.0.leaps number b.reads a.0.reads b.inside))
-clock_once text conversion number statuses.Range statuses.Text line other a b = absurd (read_leaps_are_not_refused text a.0.leaps b.0 a.0.reads b.1)
-clock_once text conversion number statuses.Range statuses.Range line other a b = refl
-clock_once text conversion number statuses.Range s line other a b = absurd b
-clock_once text conversion number r s line other a b = absurd a
 
 -- contents are those of one source, with a version that may be given
 pub same_source : (text : NamedText) (contents : List (List ℕ)) (a b : Source) → IsSourceOf text contents a → IsSourceOf text contents b → a ≡ b

@@ -1,5 +1,5 @@
 -- What a command prints is due at its status, and how it ends.
-use Rattle.std.proofs.Common.{◌≡◌, ◌≢◌, ℕ, inl, inr, List, ◌++◌, take, codes, IsTrue, Result, Ok, Err, Vec, refl}
+use Rattle.std.proofs.Common.{◌≡◌, ℕ, inl, inr, List, ◌++◌, take, codes, IsTrue, Result, Ok, Err, Vec, refl}
 use Rattle.std.specs.declared.alloc.Global.{Global}
 use Rattle.tz_io.specs.Files.{FilesState}
 use Rattle.tz_io.specs.Sink.{SinkState, with_bytes, SinkFailed}

@@ -6,14 +6,12 @@ use Rattle.tz_types.specs.Source.{bytes_together}
 use Rattle.tz_types.specs.declared.source.Source.{Source}
 use Rattle.tz_words.specs.NamedText.{NamedText, IsSourceOf}
 use Rattle.tz_words.specs.Command.{Command, Info, Local, Moves, Days, Tzif, Dump, Check, Clock}
-use Rattle.tz_cli.specs.Info.{InfoAnswers}
-use Rattle.tz_cli.specs.Local.{LocalAnswers}
+use Rattle.tz_cli.specs.Lookup.{InfoAnswers, LocalAnswers, ClockAnswers}
 use Rattle.tz_cli.specs.Moves.{MovesAnswers}
 use Rattle.tz_cli.specs.Days.{DaysAnswers}
 use Rattle.tz_cli.specs.Tzif.{TzifAnswers}
 use Rattle.tz_cli.specs.Dump.{DumpAnswers, asked_for}
 use Rattle.tz_cli.specs.Check.{CheckAnswers}
-use Rattle.tz_cli.specs.Clock.{ClockAnswers}
 use Rattle.tz_words.specs.declared.status.Status.{Status}
 use Rattle.tz_words.specs.declared.status.Status.TheVariants as statuses
 

@@ -1,5 +1,5 @@
 -- What `dump` answers over a source.
-use Rattle.std.specs.Prelude.{◌≡◌, ℕ, nat_eq, if◌then◌else◌, List, [], ◌∷◌, ◌++◌, filter, codes, ℤ, pos, ◌-ℤ◌, ◌≤ℤ◌, Option, Some, None, IsSome, slice_get}
+use Rattle.std.specs.Prelude.{◌≡◌, ℕ, nat_eq, if◌then◌else◌, List, [], ◌∷◌, ◌++◌, filter, codes, ℤ, pos, ◌-ℤ◌, ◌≤ℤ◌, Option, Some, None, slice_get}
 use Rattle.std.specs.List.{flat_map}
 use Rattle.std.specs.Cmp.Lexicographic.{pointwise}
 use Rattle.tz_types.specs.declared.range.SysInfo.{SysInfo}
@@ -11,8 +11,7 @@ use Rattle.tz_specs.specs.Reads.{Reads}
 use Rattle.tz_lines.specs.Locate.{located}
 use Rattle.tz_expand.specs.Stretch.{IsStretch, meets}
 use Rattle.tz_cli.specs.Line.{range_line}
-use Rattle.tz_cli.specs.Text.{IsTextRefusal}
-use Rattle.tz_cli.specs.Info.{HasNoZone}
+use Rattle.tz_cli.specs.SourceAnswer.{SourceAnswers}
 use Rattle.tz_words.specs.declared.status.Status.{Status}
 use Rattle.tz_words.specs.declared.status.Status.TheVariants as statuses
 
@@ -49,36 +48,20 @@ abbrev pub IsDumped : Option (List ℕ) → ℤ → ℤ → Type 0
 IsDumped None from to = IsStretch from to × ((to -ℤ from) ≤ℤ longest_dump)
 IsDumped (Some name) from to = IsStretch from to
 
--- Where a zone is asked for by its name, it is there.
-abbrev pub IsThere : Db → Option (List ℕ) → Type 0
-IsThere db None = Unit {0}
-IsThere db (Some name) = IsSome (located db name)
-
 -- The text is that of the zones asked for, which the source has.
 pub record IsDump (source : Source) (from to : ℤ) (asked : Option (List ℕ)) (line : List ℕ) : Type 0 where
   pub db : Db
   pub reads : Reads source db
   pub zones : List Zone
   pub are : AreAskedFor db asked zones
-  pub dumped : IsDumped asked from to
   pub line_is : line ≡ dump_text db from to zones
 
--- A zone is asked for that no zone and no link of the source has for a name.
-abbrev pub IsMissing : Source → Option (List ℕ) → Type 0
-IsMissing source None = ⊥
-IsMissing source (Some name) = HasNoZone source name
-
--- The source has what is asked for, and the stretch isn't one that is dumped.
-pub record IsOutOfDump (source : Source) (from to : ℤ) (asked : Option (List ℕ)) : Type 0 where
-  pub db : Db
-  pub reads : Reads source db
-  pub there : IsThere db asked
-  pub outside : ¬ (IsDumped asked from to)
+-- it is printed at the status 0
+abbrev pub IsDumpAt : Source → ℤ → ℤ → Option (List ℕ) → Status → List ℕ → Type 0
+IsDumpAt source from to asked statuses.Ok line = IsDump source from to asked line
+IsDumpAt source from to asked _ line = ⊥
 
 -- the statuses of `dump`, each with what it prints and its reason in the source
 abbrev pub DumpAnswers : Source → ℤ → ℤ → Option (List ℕ) → Status → List ℕ → Type 0
-DumpAnswers source from to asked statuses.Ok line = IsDump source from to asked line
-DumpAnswers source from to asked statuses.Text line = IsTextRefusal source line
-DumpAnswers source from to asked statuses.NoZone line = IsMissing source asked × (line ≡ codes "nozone\n")
-DumpAnswers source from to asked statuses.Range line = IsOutOfDump source from to asked × (line ≡ codes "range\n")
-DumpAnswers source from to asked _ line = ⊥
+DumpAnswers source from to asked status line =
+    SourceAnswers source asked (IsDumped asked from to) (IsDumpAt source from to asked) status line

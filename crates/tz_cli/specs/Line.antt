@@ -3,27 +3,15 @@ use Rattle.std.specs.Prelude.{ℕ, zero, suc, List, [], ◌++◌, length, codes,
 use Rattle.std.specs.List.{sum_by}
 use Rattle.std.specs.Fmt.{decimal, signed_decimal}
 use Rattle.tz_types.specs.declared.range.SysInfo.{SysInfo}
-use Rattle.tz_types.specs.declared.range.LocalInfo.{LocalInfo}
 use Rattle.tz_types.specs.declared.fault.Fault.{Fault}
-use Rattle.tz_types.specs.declared.leap_info.LeapInfo.{LeapInfo}
 use Rattle.tz_types.specs.declared.rule_set.RuleSet.{RuleSet}
 use Rattle.tz_types.specs.declared.database.Db.{Db}
 use Rattle.tz_moves.specs.declared.moves.Move.{Move}
-use Rattle.tz_output.specs.Range.{range_text, spaced, shown}
-use Rattle.tz_output.specs.LocalInfo.{local_text}
-use Rattle.tz_output.specs.LeapInfo.{leap_text}
+use Rattle.tz_lookup.specs.Range.{range_text, spaced, shown}
 
 -- a range
 abbrev pub range_line : SysInfo → List ℕ
 range_line range = range_text range ++ codes "\n"
-
--- what there is to know of a local time
-abbrev pub local_line : LocalInfo → List ℕ
-local_line info = local_text info ++ codes "\n"
-
--- `sys T`: the instant of a local time
-abbrev pub sys_line : ℤ → List ℕ
-sys_line instant = codes "sys " ++ signed_decimal instant ++ codes "\n"
 
 -- a move: `AT OFFSET SAVE ABBREV`
 abbrev pub move_line : Move → List ℕ
@@ -37,10 +25,6 @@ number_line number = signed_decimal number ++ codes "\n"
 -- a day and how many seconds it has: `DAY SECONDS`
 abbrev pub day_line : ℤ → ℤ → List ℕ
 day_line day seconds = spaced day ++ number_line seconds
-
--- what there is to know of a UTC count
-abbrev pub leap_line : LeapInfo → List ℕ
-leap_line info = leap_text info ++ codes "\n"
 
 -- how many rules a database has, in all its sets
 abbrev pub rule_count : Db → ℕ

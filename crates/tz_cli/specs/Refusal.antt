@@ -3,6 +3,8 @@ use Rattle.std.specs.Prelude.{ℕ, ◌<◌, ◌⊎◌, List, length, Result, Ok,
 use Rattle.std.specs.declared.alloc.Global.{Global}
 use Rattle.tz_types.specs.declared.source.Source.{Source}
 use Rattle.tz_cli.specs.Line.{fault_line}
+use Rattle.tz_lookup.specs.declared.found.Found.TheVariants as found
+use Rattle.tz_cli.specs.FoundLine.{found_line}
 use Rattle.tz_specs.specs.Reads as texts
 use Rattle.tz_io.specs.Files.{FilesState, FileFailed}
 use Rattle.tz_cli.specs.Outcome.{MayRead, FailsToRead, ReadsTooMuch, Exactly}
@@ -32,8 +34,8 @@ refusal_line (refusals.Text fault) = fault_line (codes "text") fault
 refusal_line (refusals.Leaps fault) = fault_line (codes "leaps") fault
 refusal_line (refusals.Script fault) =
     fault_line (codes "script") (record { file = 0; line = fault.line; cause = fault.cause })
-refusal_line refusals.NoZone = codes "nozone\n"
-refusal_line refusals.Range = codes "range\n"
+refusal_line refusals.NoZone = found_line found.NoZone
+refusal_line refusals.Range = found_line found.Range
 refusal_line refusals.Types = codes "types\n"
 refusal_line refusals.Designations = codes "designations\n"
 refusal_line refusals.Memory = codes "memory\n"

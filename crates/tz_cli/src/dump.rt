@@ -17,7 +17,7 @@ use std::sync::Arc;
 use std::thread::Threads;
 use tz_expand::{CompiledZone, compile, dump_zones};
 use tz_io::{PutError, Sink};
-use tz_output::put_range;
+use tz_lookup::put_range;
 use tz_types::{Db, NoMemory, Shared, SysInfo};
 
 /// How many zones are expanded at once. Their ranges are let go before those of the next ones are made.

@@ -23,13 +23,11 @@
 #![tactic(auto)]
 
 mod check;
-mod clock;
 mod days;
 mod dump;
 mod file_contents;
-mod info;
 mod line;
-mod local;
+mod lookup;
 mod moves;
 mod named_zone;
 mod output;

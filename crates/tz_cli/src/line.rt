@@ -1,44 +1,14 @@
-//! The lines that commands print, each a value spelled by `tz_output` with a newline behind it.
+//! The lines that commands print, each a value spelled by `tz_lookup` with a newline behind it.
 ghost use Rattle.std.specs.Prelude.{◌≡◌, ◌≤◌, ◌<◌, ◌*◌, ◌^◌, ◌++◌, IfOk, OnOk};
 ghost use Rattle.std.specs.Fmt.{decimal};
 ghost use Rattle.tz_types.specs.declared.limit.TheConstants.{MOST_SETS, MOST_RULES};
-ghost use Rattle.tz_cli.specs.Line.{range_line, local_line, sys_line, move_line, day_line, number_line, leap_line, rule_count, check_line, in_file, fault_line};
+ghost use Rattle.tz_cli.specs.Line.{move_line, day_line, rule_count, check_line, in_file, fault_line};
 
 use std::alloc::Global;
+use tz_lookup::{put_spaced, shown};
 use tz_moves::Move;
-use tz_output::{put_leap_info, put_local_info, put_range, put_spaced, shown};
 use tz_text::put_number;
-use tz_types::{Db, Fault, LeapInfo, LocalInfo, NoMemory, SysInfo};
-
-/// The line of a range.
-pub fn range_line(alloc: Global, range: &SysInfo) -> Result<Vec<u8>, NoMemory>
-    ensures { IfOk result (λ line. line.items ≡ range_line range.now) }
-{
-    let mut line = Vec::new(alloc);
-    put_range(&mut line, range)?;
-    line.extend_from_slice(b"\n")?;
-    Ok(line)
-}
-
-/// The line of what there is to know of a local time.
-pub fn local_line(alloc: Global, info: &LocalInfo) -> Result<Vec<u8>, NoMemory>
-    ensures { IfOk result (λ line. line.items ≡ local_line info.now) }
-{
-    let mut line = Vec::new(alloc);
-    put_local_info(&mut line, info)?;
-    line.extend_from_slice(b"\n")?;
-    Ok(line)
-}
-
-/// The line of the instant of a local time.
-pub fn sys_line(alloc: Global, instant: i64) -> Result<Vec<u8>, NoMemory>
-    ensures { IfOk result (λ line. line.items ≡ sys_line instant) }
-{
-    let mut line = b"sys ".to_vec(alloc)?;
-    put_number(&mut line, instant)?;
-    line.extend_from_slice(b"\n")?;
-    Ok(line)
-}
+use tz_types::{Db, Fault, NoMemory};
 
 /// Puts the line of a move at the end of a text.
 pub fn put_move(out: &mut Vec<u8>, change: &Move) -> Result<(), NoMemory>
@@ -52,16 +22,6 @@ pub fn put_move(out: &mut Vec<u8>, change: &Move) -> Result<(), NoMemory>
     Ok(())
 }
 
-/// The line of a number.
-pub fn number_line(alloc: Global, number: i64) -> Result<Vec<u8>, NoMemory>
-    ensures { IfOk result (λ line. line.items ≡ number_line number) }
-{
-    let mut line = Vec::new(alloc);
-    put_number(&mut line, number)?;
-    line.extend_from_slice(b"\n")?;
-    Ok(line)
-}
-
 /// Puts the line of a day at the end of a text.
 pub fn put_day(out: &mut Vec<u8>, day: i64, seconds: i64) -> Result<(), NoMemory>
     ensures { OnOk result (out.new.items ≡ out.old.items ++ day_line day seconds) }
@@ -70,16 +30,6 @@ pub fn put_day(out: &mut Vec<u8>, day: i64, seconds: i64) -> Result<(), NoMemory
     put_number(out, seconds)?;
     out.extend_from_slice(b"\n")?;
     Ok(())
-}
-
-/// The line of what there is to know of a UTC count.
-pub fn leap_line(alloc: Global, info: LeapInfo) -> Result<Vec<u8>, NoMemory>
-    ensures { IfOk result (λ line. line.items ≡ leap_line info) }
-{
-    let mut line = Vec::new(alloc);
-    put_leap_info(&mut line, info)?;
-    line.extend_from_slice(b"\n")?;
-    Ok(line)
 }
 
 /// How many rules the database has, in all its sets.

@@ -13,11 +13,9 @@ ghost use Rattle.tz_cli.specs.Output.{GivesOutput, as_output, is_in_pieces};
 ghost use Rattle.tz_words.specs.declared.status.Status.{Status};
 
 use crate::check::check;
-use crate::clock::clock;
 use crate::days::days;
 use crate::file_contents::contents_of;
-use crate::info::info;
-use crate::local::local;
+use crate::lookup::{clock, info, local};
 use crate::moves::moves;
 use crate::output::{Output, print_output};
 use crate::printout::{print, print_refusal};
@@ -63,7 +61,7 @@ fn answer_over(
             text,
             zone,
             instant,
-        } => line(info(alloc, &text.source(contents), zone.as_bytes(), instant)),
+        } => info(alloc, &text.source(contents), zone.as_bytes(), instant),
         CommandLine::Local {
             text,
             zone,
@@ -102,7 +100,7 @@ fn answer_over(
             conversion,
             number,
             ..
-        } => line(clock(alloc, leap_text(&contents), conversion, number)),
+        } => clock(alloc, leap_text(&contents), conversion, number),
     }
 }
 

@@ -3,9 +3,10 @@ ghost use Rattle.std.specs.Prelude.{◌≡◌, ◌≤◌, ◌+◌, ◌↔◌, Li
 ghost use Rattle.tz_specs.specs.Sound.{is_sound};
 ghost use Rattle.tz_lines.specs.Locate.{located};
 ghost use Rattle.tz_expand.specs.Stretch.{IsStretch};
-ghost use Rattle.tz_cli.specs.Dump.{asked_for, AreAskedFor, IsDumped, IsDump, DumpAnswers};
+ghost use Rattle.tz_cli.specs.Dump.{asked_for, AreAskedFor, IsDumped, DumpAnswers};
 ghost use Rattle.tz_cli.specs.Dumping.{compiled_texts};
 ghost use Rattle.tz_cli.specs.Refusal.{IsRefusal};
+ghost use Rattle.tz_words.specs.declared.status.Status.TheVariants as statuses;
 
 use crate::dump::compiled_zones;
 use crate::refusal::Refusal;
@@ -67,7 +68,7 @@ pub fn dump(
     to: i64,
     word: &[u8],
 ) -> Result<ZoneDump, Refusal>
-    ensures ok { IfOk result (λ dump. IsDump source.now from to (asked_for word.now) (compiled_texts dump.from dump.to dump.zones.items)) }
+    ensures ok { IfOk result (λ dump. DumpAnswers source.now from to (asked_for word.now) statuses.Ok (compiled_texts dump.from dump.to dump.zones.items)) }
     ensures refused { IfErr result (λ refusal. IsRefusal (DumpAnswers source.now from to (asked_for word.now)) refusal) }
 {
     let db = match database_of(alloc, source) {

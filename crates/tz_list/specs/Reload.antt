@@ -1,5 +1,5 @@
 -- What a reload answers, and what its reader then knows.
-use Rattle.std.specs.Prelude.{◌≡◌, ℕ, Result, Ok, Err}
+use Rattle.std.specs.Prelude.{◌≡◌, ℕ, length, take, Result, Ok, Err}
 use Rattle.pin_core.specs.declared.view.View.{View}
 use Rattle.pin_table.specs.declared.answers.Pushed.{Pushed}
 use Rattle.pin_table.specs.declared.answers.PushWhy.{PushWhy}
@@ -44,3 +44,11 @@ LacksVersion sources src (reload.Text fault) = RefusesSource sources src fault
 LacksVersion sources src (reload.Same w n) = ⊥
 LacksVersion sources src (reload.JournalFull w) = ⊥
 LacksVersion sources src (reload.Full w) = ⊥
+
+-- What stays of a reader over a reload: its pins, its number, its floor, and all that it had seen.
+pub record ReloadKeeps (v v' : View) : Type 0 where
+  pub entries : v'.entries ≡ v.entries
+  pub role : v'.role ≡ v.role
+  pub numbers : v'.numbers ≡ v.numbers
+  pub floor : v'.floor ≡ v.floor
+  pub grows : take (length v.seen) v'.seen ≡ v.seen

@@ -35,3 +35,6 @@ mod reload;
 pub use error::{OpenError, ReloadError};
 pub use laws::a_handle_holds_its_source;
 pub use list::{ListHandle, ListMain, ListReader, TzdbList};
+
+#[cfg(test)]
+mod tests;

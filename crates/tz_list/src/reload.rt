@@ -1,12 +1,12 @@
 //! Reloads: the version of a source, made anew and pushed.
-ghost use Rattle.std.specs.Prelude.{◌≡◌, ◌<◌, ◌↔◌, ℕ, length, Err, IfOk, IfErr};
+ghost use Rattle.std.specs.Prelude.{◌≡◌, ◌+◌, ◌<◌, ◌↔◌, ℕ, length, Err, IfOk, IfErr, OnOk, OnErr};
 ghost use Rattle.std.specs.Arc.{arc_value};
 ghost use Rattle.tz_types.specs.declared.fault.Fault.{Fault};
 ghost use Rattle.pin_table.specs.Reader.{reader_view};
 ghost use Rattle.pin_table.specs.Table.{plan};
 ghost use Rattle.tz_version.specs.Refusal.{RefusesSource};
 ghost use Rattle.tz_version.specs.Release.{IsVersionOf};
-ghost use Rattle.tz_list.specs.Reload.{LacksVersion, Reloads};
+ghost use Rattle.tz_list.specs.Reload.{LacksVersion, Reloads, ReloadKeeps};
 
 use crate::{ListReader, ReloadError, TzdbList};
 use pin_table::{PushWhy, Pushed};
@@ -62,7 +62,8 @@ impl TzdbList {
     ///
     /// The version and its copies are made before the turn is taken. So a source that is refused and want of memory leave
     /// the list, the turn and the reader as they were. Memory aside, `Text` comes exactly where the source is refused, with
-    /// its fault. `Same`, `JournalFull` and `Full` come as a push of that version answers them.
+    /// its fault. `Same`, `JournalFull` and `Full` come as a push of that version answers them. The reader's handles stay its
+    /// own, whatever is answered.
     pub fn reload<R: Wait>(
         &self,
         rt: &R,
@@ -74,6 +75,9 @@ impl TzdbList {
         requires there { src < length self.now.sources.texts }
         ensures reloads { Reloads (plan self.now.table) self.now.sources src reader.old.number (reader_view reader.old) (reader_view reader.new) result }
         ensures text { (fault : Fault) → ¬ (result ≡ Err ReloadError.NoMemory) → (result ≡ Err (ReloadError.Text fault)) ↔ RefusesSource self.now.sources src fault }
+        ensures keeps { ReloadKeeps (reader_view reader.old) (reader_view reader.new) }
+        ensures spends_one { OnOk result ((reader_view reader.new).allowance + 1 ≡ (reader_view reader.old).allowance) }
+        ensures spends_none { OnErr result ((reader_view reader.new).allowance ≡ (reader_view reader.old).allowance) }
         ensures table { reader.new.table.now ≡ reader.old.table.now }
         ensures number { reader.new.number ≡ reader.old.number }
     {

@@ -2,12 +2,12 @@
 use Rattle.std.proofs.Common.{ℕ, List, ℤ, refl, subst}
 use Rattle.tz_script.specs.declared.operation.Pick.{Pick}
 use Rattle.tz_expand.specs.declared.compiled_zone.CompiledZone.{CompiledZone}
-use Rattle.tz_output.specs.declared.conversion.Conversion.{Conversion}
+use Rattle.tz_lookup.specs.declared.conversion.Conversion.{Conversion}
 use Rattle.tz_version.specs.declared.sources.Sources.{Sources}
 use Rattle.tz_version.specs.Release.{Release, IsVersionOf}
 use Rattle.pin_book.specs.Replay.{Edition}
 use Rattle.tz_batch.specs.Finding.{FindsInZone, FindsByClock}
-use Rattle.tz_batch.specs.declared.found.Found.{Found}
+use Rattle.tz_lookup.specs.declared.found.Found.{Found}
 use Rattle.tz_batch.specs.declared.answer.Answer.TheVariants as answers
 use Rattle.tz_run.specs.Session.{Session, Picks}
 use Rattle.tz_run.specs.Serving.{ServesLookup, ServesInZone}

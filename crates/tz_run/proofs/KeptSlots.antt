@@ -19,7 +19,7 @@ use Rattle.tz_batch.specs.Run.{EachInTurn, InSlot, versions_told, SlotsKeep}
 use Rattle.tz_batch.specs.Answering.{IsToldAs}
 use Rattle.tz_batch.specs.declared.answer.Answer.{Answer}
 use Rattle.tz_batch.specs.declared.answer.Answer.TheVariants as answers
-use Rattle.tz_batch.specs.declared.found.Found.{Found}
+use Rattle.tz_lookup.specs.declared.found.Found.{Found}
 use Rattle.tz_run.specs.Session.{Session, list_now, newest_now, HoldsAs, Picks, with_change}
 use Rattle.tz_run.specs.Serving.{ServesLook, ServesHold, ServesDrop, ServesLookup, ServesReload, ServesErase, ServesList, Serves}
 use Rattle.tz_run.proofs.Served.{IsServed}

@@ -28,7 +28,7 @@ use Rattle.tz_batch.specs.Batch.{Batch, Answered, answered, tells_write}
 use Rattle.tz_batch.specs.Finding.{FindsInfo, FindsLocal, FindsSys, FindsScan, FindsInZone, FindsByClock}
 use Rattle.tz_batch.specs.declared.answer.Answer.{Answer}
 use Rattle.tz_batch.specs.declared.answer.Answer.TheVariants as answers
-use Rattle.tz_batch.specs.declared.found.Found.{Found}
+use Rattle.tz_lookup.specs.declared.found.Found.{Found}
 use Rattle.tz_run.specs.Session.{Session, opening_session, in_round, list_now, newest_now, is_slot_held}
 use Rattle.tz_run.specs.Serving.{ServesLook, ServesHold, ServesDrop, ServesLookup, ServesReload, ServesErase, ServesList, Serves, hold_at}
 use Rattle.tz_run.specs.Leading.{Steps, Leads}

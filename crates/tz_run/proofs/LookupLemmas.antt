@@ -3,8 +3,8 @@ use Rattle.std.proofs.Common.{ℕ, List}
 use Rattle.tz_expand.specs.declared.compiled_zone.CompiledZone.{CompiledZone}
 use Rattle.tz_version.specs.Release.{Release, IsVersionOf, IsZoneCalled}
 use Rattle.tz_batch.specs.Finding.{FindsInZone}
-use Rattle.tz_batch.specs.declared.found.Found.{Found}
-use Rattle.tz_batch.specs.declared.found.Found.TheVariants as found
+use Rattle.tz_lookup.specs.declared.found.Found.{Found}
+use Rattle.tz_lookup.specs.declared.found.Found.TheVariants as found
 
 -- What a lookup finds in the zone that a name stands for, it finds by that name. In a zone it never finds that there is none.
 pub found_in_zone : (version : Release) (name : List ℕ) (finds : CompiledZone → Found → Type 0) (zone : CompiledZone) (f : Found)

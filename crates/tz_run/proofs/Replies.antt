@@ -19,7 +19,7 @@ use Rattle.tz_batch.specs.Finding.{FindsInfo, FindsLocal, FindsSys, FindsScan, F
 use Rattle.tz_batch.specs.Run.{EachInTurn}
 use Rattle.tz_batch.specs.declared.answer.Answer.{Answer}
 use Rattle.tz_batch.specs.declared.answer.Answer.TheVariants as answers
-use Rattle.tz_batch.specs.declared.found.Found.{Found}
+use Rattle.tz_lookup.specs.declared.found.Found.{Found}
 use Rattle.tz_batch.specs.declared.reply.Reply.{Reply}
 use Rattle.tz_expand.specs.declared.compiled_zone.CompiledZone.{CompiledZone}
 use Rattle.tz_run.specs.Session.{Session, list_now, newest_now, HoldsAs, Picks, with_change}

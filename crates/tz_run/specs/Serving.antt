@@ -13,7 +13,7 @@ use Rattle.tz_batch.specs.Answering.{IsToldAs, IsRefusedWith, IsAccepted}
 use Rattle.tz_batch.specs.Finding.{FindsInfo, FindsLocal, FindsSys, FindsScan, FindsInZone, FindsByClock}
 use Rattle.tz_batch.specs.declared.answer.Answer.{Answer}
 use Rattle.tz_batch.specs.declared.answer.Answer.TheVariants as answers
-use Rattle.tz_batch.specs.declared.found.Found.{Found}
+use Rattle.tz_lookup.specs.declared.found.Found.{Found}
 use Rattle.tz_run.specs.Session.{Session, list_now, newest_now, HoldsAs, Picks, IsFirstFree, IsFilled, with_change}
 use Rattle.tz_run.specs.declared.hold.Hold.{Hold}
 

@@ -9,13 +9,12 @@ ghost use Rattle.tz_batch.specs.Finding.{FindsInfo, FindsLocal, FindsSys, FindsS
 ghost use Rattle.tz_run.specs.Serving.{ServesLook, ServesList, ServesInZone, ServesLookup};
 ghost use Rattle.tz_run.specs.Asking.{HasHold};
 
-use crate::clock::find_by_clock;
 use crate::desk::Desk;
-use crate::lookup::{find_info, find_local, find_scan, find_sys};
+use crate::lookup::{find_by_clock, find_info, find_local, find_scan, find_sys};
 use pin_book::Listed;
 use std::alloc::Global;
 use tz_batch::{Answer, Listing};
-use tz_output::Conversion;
+use tz_lookup::Conversion;
 use tz_script::Pick;
 use tz_types::{Choose, Items, Label, NoMemory};
 

@@ -16,7 +16,6 @@
 //! ```
 #![tactic(auto)]
 
-mod clock;
 mod desk;
 mod erase;
 mod gate;

@@ -9,9 +9,9 @@ use Rattle.tz_types.specs.declared.range.Choose.TheVariants.{Earliest, Latest}
 use Rattle.tz_specs.specs.Choice.{◌>>=◌, only_if}
 use Rattle.tz_specs.specs.Number.{number_of, signed_number_of}
 use Rattle.tz_specs.specs.Value.{is_exactly}
-use Rattle.tz_output.specs.Conversion.{conversion_word}
-use Rattle.tz_output.specs.declared.conversion.Conversion.{Conversion}
-use Rattle.tz_output.specs.declared.conversion.Conversion.TheVariants as conversions
+use Rattle.tz_lookup.specs.Conversion.{conversion_word}
+use Rattle.tz_lookup.specs.declared.conversion.Conversion.{Conversion}
+use Rattle.tz_lookup.specs.declared.conversion.Conversion.TheVariants as conversions
 use Rattle.tz_script.specs.HoldName.{is_front, is_hold_name}
 use Rattle.tz_script.specs.declared.limit.TheConstants.{MOST_LANES}
 use Rattle.tz_script.specs.declared.operation.Pick.{Pick}

@@ -6,7 +6,7 @@ ghost use Rattle.tz_script.specs.Keeping.{KeepsHolds, KeepsSources};
 ghost use Rattle.tz_script.specs.Script.{script_contents_of, whole_fault, ReadsScript, RefusesScript};
 ghost use Rattle.tz_script.specs.Laws.{HasSameParts, IsReadable};
 ghost use Rattle.tz_script.specs.Size.{IsSized};
-ghost use Rattle.tz_output.specs.declared.conversion.Conversion.{Conversion};
+ghost use Rattle.tz_lookup.specs.declared.conversion.Conversion.{Conversion};
 ghost use Rattle.tz_script.specs.declared.operation.Op.TheVariants as ops;
 ghost use Rattle.tz_script.specs.declared.operation.Pick.{Pick};
 ghost use Rattle.tz_script.specs.declared.script.Script.{Script as DeclaredScript};

@@ -13,7 +13,7 @@ use crate::hold_name::{HoldName, is_front};
 use crate::limit::MOST_LANES;
 use crate::operation::Pick;
 use crate::words::{is_exactly, next_word};
-use tz_output::Conversion;
+use tz_lookup::Conversion;
 use tz_text::{local_time, number, signed_number};
 use tz_types::{Choose, Label};
 

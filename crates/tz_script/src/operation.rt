@@ -5,7 +5,7 @@ ghost use Rattle.std.specs.Prelude.{◌≡◌, option_map};
 ghost use Rattle.tz_script.specs.Operation.{hold_begun, hold_needed, hold_picked, is_change, source_asked};
 
 use crate::hold_name::HoldName;
-use tz_output::Conversion;
+use tz_lookup::Conversion;
 use tz_types::{Choose, Label};
 
 /// The version that an operation looks into: the one at the front of the list, or one that is held.

@@ -3,7 +3,7 @@ use crate::{HoldName, Op, Pick, ScriptError, read_script};
 use std::alloc::Global;
 use std::process::Abort;
 use std::test::Fail;
-use tz_output::Conversion;
+use tz_lookup::Conversion;
 use tz_types::{Choose, Label, LineFault, MOST_BYTES};
 
 /// How many texts there are to reload.

@@ -12,7 +12,7 @@ use Rattle.tz_script.proofs.ScriptLaws.{not_both}
 use Rattle.tz_version.specs.declared.sources.TheConstants.{MOST_SOURCES}
 use Rattle.tz_version.specs.declared.sources.Sources.{Sources}
 use Rattle.tz_batch.specs.Answering.{IsAccepted}
-use Rattle.tz_cli.specs.Clock.{IsLeapRefusal}
+use Rattle.tz_cli.specs.Lookup.{IsLeapRefusal}
 use Rattle.tz_words.specs.NamedText.{NamedText}
 use Rattle.tz_words.specs.BatchCommand.{BatchCommand}
 use Rattle.tz_words.specs.declared.status.Status.{Status}

@@ -12,7 +12,7 @@ use Rattle.tz_batch.specs.Positions.{PositionsCountWrites}
 use Rattle.tz_batch.specs.Run.{IsRun}
 use Rattle.tz_batch.specs.declared.outcome.Outcome.{Outcome}
 use Rattle.tz_words.specs.BatchCommand.{BatchCommand}
-use Rattle.tz_cli.specs.Clock.{IsLeapRefusal}
+use Rattle.tz_cli.specs.Lookup.{IsLeapRefusal}
 use Rattle.tz_cli.specs.Line.{fault_line}
 use Rattle.tz_words.specs.declared.status.Status.{Status}
 use Rattle.tz_words.specs.declared.status.Status.TheVariants as statuses

@@ -6,10 +6,10 @@ use Rattle.std.specs.Option.{option_and_then}
 use Rattle.tz_types.specs.Civil.{is_from_to}
 use Rattle.tz_specs.specs.Choice.{only_if}
 use Rattle.tz_specs.specs.Number.{number_of, signed_number_of}
-use Rattle.tz_output.specs.Choice.{choice_word}
-use Rattle.tz_output.specs.Conversion.{conversion_word}
-use Rattle.tz_output.specs.declared.choice.Choice.{Choice}
-use Rattle.tz_output.specs.declared.conversion.Conversion.{Conversion}
+use Rattle.tz_lookup.specs.Choice.{choice_word}
+use Rattle.tz_lookup.specs.Conversion.{conversion_word}
+use Rattle.tz_lookup.specs.declared.choice.Choice.{Choice}
+use Rattle.tz_lookup.specs.declared.conversion.Conversion.{Conversion}
 use Rattle.tz_text.specs.LocalTime.{local_time_of}
 use Rattle.tz_words.specs.NamedText.{NamedText, named_text_of, parts_of}
 use Rattle.tz_words.specs.BatchCommand.{BatchCommand, IsBatchCommand, texts_in}

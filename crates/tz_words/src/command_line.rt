@@ -1,6 +1,6 @@
 //! What the words of a command line stand for.
 use crate::text_word::TextWord;
-use tz_output::{Choice, Conversion};
+use tz_lookup::{Choice, Conversion};
 
 /// A command, with what its words name.
 #[derive(Clone, Copy)]

@@ -4,7 +4,7 @@
 //! its words one by one and takes no memory, so a `CommandLine` borrows them. None comes exactly where words stand for no
 //! command. `form_of` tells which form words have, of all commands, and a `Status` how a command ended, with its number.
 //! The layer above reads the files that a `TextWord` names, and has `source` make a source of what they hold. No file and
-//! no version is known here: the crate stands on `tz_text` for numbers and times, on `tz_output` for the words of choices
+//! no version is known here: the crate stands on `tz_text` for numbers and times, on `tz_lookup` for the words of choices
 //! and conversions, and on `tz_script` and `pin_book` for how many texts and slots a batch may have.
 //!
 //! ```rust

@@ -2,12 +2,12 @@
 ghost use Rattle.std.specs.Prelude.{◌≡◌, ℕ, List, ℤ, IsNone, IfSome};
 ghost use Rattle.tz_words.specs.Command.{IsInfo, IsLocalCommand, IsMovesCommand, IsDaysCommand, IsTzifCommand, IsDumpCommand, IsCheck, IsClock, Command, IsCommand, words_of, meant, day_count_of, short_year_of};
 ghost use Rattle.tz_words.specs.NamedText.{NamedText};
-ghost use Rattle.tz_output.specs.declared.choice.Choice.{Choice};
-ghost use Rattle.tz_output.specs.declared.conversion.Conversion.{Conversion};
+ghost use Rattle.tz_lookup.specs.declared.choice.Choice.{Choice};
+ghost use Rattle.tz_lookup.specs.declared.conversion.Conversion.{Conversion};
 
 use crate::command_line::CommandLine;
 use crate::text_word::TextWord;
-use tz_output::{Choice, Conversion};
+use tz_lookup::{Choice, Conversion};
 use tz_text::{local_time, number, signed_number};
 
 /// The most days that are asked for at once.

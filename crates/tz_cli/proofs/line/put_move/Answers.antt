@@ -1,8 +1,8 @@
 use Rattle.std.proofs.Common.{FitsSigned, rules, codes}
 use Rattle.std.specs.Int.{w64}
 use Rattle.std.proofs.lemmas.Int.{to_z-of_z}
-use Rattle.tz_output.specs.Range.{shown, spaced}
-use Rattle.tz_output.proofs.Appends.{after_five}
+use Rattle.tz_lookup.specs.Range.{shown, spaced}
+use Rattle.tz_lookup.proofs.Appends.{after_five}
 use Rattle.tz_cli.proofs.line.put_move.Goals as goal
 
 pub returns : goal.returns

@@ -3,8 +3,7 @@ use Rattle.std.specs.Int.{w32, w64}
 use Rattle.std.proofs.lemmas.Int.{to_z-of_z}
 use Rattle.tz_types.specs.Source.{bytes_together}
 use Rattle.tz_words.specs.Command.{named}
-use Rattle.tz_cli.specs.Info.{InfoAnswers}
-use Rattle.tz_cli.specs.Local.{LocalAnswers}
+use Rattle.tz_cli.specs.Lookup.{InfoAnswers, LocalAnswers}
 use Rattle.tz_cli.specs.Moves.{MovesAnswers}
 use Rattle.tz_cli.specs.Days.{DaysAnswers}
 use Rattle.tz_cli.specs.Tzif.{TzifAnswers}
@@ -19,8 +18,8 @@ use Rattle.tz_cli.proofs.top.answer_over.Goals as goal
 pub returns-in-Info-clause-answers : goal.returns-in-Info-clause-answers
 returns-in-Info-clause-answers c =
     let fits : FitsSigned w64 c.in-Info.instant = search rules in
-    let given = simp to_z-of_z at (rw c.as_bytes.ensures.value at c.info.ensures) in
-    rw (c.line.ensures, c.in-Info.is) (over_source (named c.in-Info.text) c.args.contents c.source.result (λ source. InfoAnswers source c.in-Info.zone.now c.in-Info.instant) (as_output c.info.result) c.source.ensures (gives_line (InfoAnswers c.source.result c.in-Info.zone.now c.in-Info.instant) c.info.result given))
+    let given = simp to_z-of_z at (rw c.as_bytes.ensures.value at c.info.ensures.answers) in
+    rw c.in-Info.is (over_source (named c.in-Info.text) c.args.contents c.source.result (λ source. InfoAnswers source c.in-Info.zone.now c.in-Info.instant) c.info.result c.source.ensures given)
 
 pub returns-in-Local-clause-answers : goal.returns-in-Local-clause-answers
 returns-in-Local-clause-answers c =
@@ -33,7 +32,7 @@ returns-in-Moves-clause-answers c =
     let from_fits : FitsSigned w64 c.in-Moves.from = search rules in
     let to_fits : FitsSigned w64 c.in-Moves.to = search rules in
     let given = simp to_z-of_z at (rw c.as_bytes-in-Moves.ensures.value at c.moves.ensures) in
-    rw (c.line-in-Moves.ensures, c.in-Moves.is) (over_source (named c.in-Moves.text) c.args.contents c.source-in-Moves.result (λ source. MovesAnswers source c.in-Moves.zone.now c.in-Moves.from c.in-Moves.to) (as_output c.moves.result) c.source-in-Moves.ensures (gives_line (MovesAnswers c.source-in-Moves.result c.in-Moves.zone.now c.in-Moves.from c.in-Moves.to) c.moves.result given))
+    rw (c.line.ensures, c.in-Moves.is) (over_source (named c.in-Moves.text) c.args.contents c.source-in-Moves.result (λ source. MovesAnswers source c.in-Moves.zone.now c.in-Moves.from c.in-Moves.to) (as_output c.moves.result) c.source-in-Moves.ensures (gives_line (MovesAnswers c.source-in-Moves.result c.in-Moves.zone.now c.in-Moves.from c.in-Moves.to) c.moves.result given))
 
 pub returns-in-Days-clause-answers : goal.returns-in-Days-clause-answers
 returns-in-Days-clause-answers c =
@@ -65,6 +64,12 @@ returns-in-Dump-clause-answers c =
 pub returns-in-Check-clause-answers : goal.returns-in-Check-clause-answers
 returns-in-Check-clause-answers c =
     rw (c.line-in-Check.ensures, c.in-Check.is) (over_source (named c.in-Check.text) c.args.contents c.source-in-Check.result CheckAnswers (as_output c.check.result) c.source-in-Check.ensures (gives_line (CheckAnswers c.source-in-Check.result) c.check.result c.check.ensures))
+
+pub returns-clause-answers : goal.returns-clause-answers
+returns-clause-answers c =
+    let fits : FitsSigned w64 c.in-Clock.number = search rules in
+    let given = simp to_z-of_z at (rw c.leap_text.ensures at c.clock.ensures.answers) in
+    rw c.in-Clock.is given
 
 pub clock-requires : goal.clock-requires
 clock-requires c =

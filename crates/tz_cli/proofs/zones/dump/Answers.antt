@@ -27,11 +27,13 @@ returns-in-Ok-compiled_zones-clause-ok c =
     let db = c.in-Ok.db in
     let zones = take c.in-Some.count (drop c.in-Some.first db.zones) in
     let line : compiled_texts c.args.from c.args.to c.in-Ok-compiled_zones.zones.items ≡ dump_text db c.args.from c.args.to zones = search rules in
-    simp to_z-of_z (record {
-      db = db;
-      reads = c.in-Ok.ensures.ok;
-      zones = zones;
-      are = rw (← c.in-Some.first-is, ← c.in-Some.count-is) c.in-Some.ensures.are;
-      dumped = search rules;
-      line_is = line;
-    })
+    simp to_z-of_z (
+      search rules,
+      record {
+        db = db;
+        reads = c.in-Ok.ensures.ok;
+        zones = zones;
+        are = rw (← c.in-Some.first-is, ← c.in-Some.count-is) c.in-Some.ensures.are;
+        line_is = line;
+      },
+    )

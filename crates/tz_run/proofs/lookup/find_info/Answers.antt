@@ -8,8 +8,8 @@ use Rattle.tz_run.proofs.lookup.find_info.Goals as goal
 pub returns-in-Ok : goal.returns-in-Ok
 returns-in-Ok c =
     let fits : FitsSigned w64 c.args.t = c.ranges.t in
-    let finds = simp to_z-of_z at c.info_in.ensures in
-    found_in_zone c.args.version.now c.args.name.now (λ compiled. FindsInfo compiled c.args.t) c.in-Ok.zone c.info_in.result (λ never. never) c.zone.ensures.is c.in-Ok.ensures.found finds
+    let finds = simp to_z-of_z at c.find_info_by_windows.ensures in
+    found_in_zone c.args.version.now c.args.name.now (λ compiled. FindsInfo compiled c.args.t) c.in-Ok.zone c.find_info_by_windows.result (λ never. never) c.zone.ensures.is c.in-Ok.ensures.found finds
 
 pub returns-in-Err : goal.returns-in-Err
 returns-in-Err c = (c.args.version.now, c.zone.ensures.is, c.in-Err.ensures.missing.0 refl)

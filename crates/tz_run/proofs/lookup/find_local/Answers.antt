@@ -8,8 +8,8 @@ use Rattle.tz_run.proofs.lookup.find_local.Goals as goal
 pub returns-in-Ok : goal.returns-in-Ok
 returns-in-Ok c =
     let fits : FitsSigned w64 c.args.l = c.ranges.l in
-    let finds = simp (to_z-of_z, c.compiled.ensures) at c.local_in.ensures in
-    found_in_zone c.args.version.now c.args.name.now (λ compiled. FindsLocal compiled c.args.l) c.in-Ok.zone c.local_in.result (λ never. never) c.zone.ensures.is c.in-Ok.ensures.found finds
+    let finds = simp (to_z-of_z, c.compiled.ensures) at c.find_local.ensures in
+    found_in_zone c.args.version.now c.args.name.now (λ compiled. FindsLocal compiled c.args.l) c.in-Ok.zone c.find_local.result (λ never. never) c.zone.ensures.is c.in-Ok.ensures.found finds
 
 pub returns-in-Err : goal.returns-in-Err
 returns-in-Err c = (c.args.version.now, c.zone.ensures.is, c.in-Err.ensures.missing.0 refl)

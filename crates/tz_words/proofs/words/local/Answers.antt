@@ -2,7 +2,7 @@ use Rattle.std.proofs.Common.{◌≡◌, ℕ, List, [], ◌∷◌, length, codes
 use Rattle.std.specs.Int.{w64}
 use Rattle.std.proofs.lemmas.Int.{to_z-of_z}
 use Rattle.tz_words.specs.Command.{words_of}
-use Rattle.tz_output.specs.Choice.{choice_word}
+use Rattle.tz_lookup.specs.Choice.{choice_word}
 use Rattle.tz_words.proofs.FewWords.{five, alike}
 use Rattle.tz_words.proofs.words.local.Goals as goal
 

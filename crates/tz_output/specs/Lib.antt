@@ -1,5 +1,0 @@
-pub mod Range
-pub mod LocalInfo
-pub mod LeapInfo
-pub mod Conversion
-pub mod Choice
