@@ -1,5 +1,5 @@
 -- What a zone or a leap text settles: each lookup finds one thing there.
-use Rattle.std.proofs.Common.{◌≡◌, ℕ, refl, sym, ap, ◌∙◌, Option, ℤ}
+use Rattle.std.proofs.Common.{◌≡◌, ℕ, sym, ap, ◌∙◌, Option, ℤ}
 use Rattle.tz_types.specs.declared.range.Choose.{Choose}
 use Rattle.tz_expand.specs.declared.compiled_zone.CompiledZone.{CompiledZone}
 use Rattle.tz_expand.specs.Zone.{expansion_of}

@@ -49,28 +49,28 @@ zone_has source name holds zone named is =
     }
 
 -- what is found is in range, or is that it isn't; and never that there is no zone
-abbrev IsWithin : Type 0 → Found → Type 0
-IsWithin inside found.NoZone = ⊥
-IsWithin inside found.Range = inside → ⊥
-IsWithin inside _ = inside
+abbrev KeepsRange : Type 0 → Found → Type 0
+KeepsRange inside found.NoZone = ⊥
+KeepsRange inside found.Range = inside → ⊥
+KeepsRange inside _ = inside
 
-pub info_within : (t : ℤ) (ranges : List SysInfo) (f : Found) → IsInfoFound ranges t f → IsWithin (IsInstant t) f
+pub info_within : (t : ℤ) (ranges : List SysInfo) (f : Found) → IsInfoFound ranges t f → KeepsRange (IsInstant t) f
 info_within t ranges (found.Info range) is = is.0
 info_within t ranges found.Range is = is
 info_within t ranges f is = absurd is
 
-local_within : (l : ℤ) (ranges : List SysInfo) (f : Found) → IsLocalFound ranges l f → IsWithin (IsLocalTime l) f
+local_within : (l : ℤ) (ranges : List SysInfo) (f : Found) → IsLocalFound ranges l f → KeepsRange (IsLocalTime l) f
 local_within l ranges (found.Local info) is = is.0
 local_within l ranges found.Range is = is
 local_within l ranges f is = absurd is
 
-sys_within : (l : ℤ) (choose : Option Choose) (ranges : List SysInfo) (f : Found) → IsSysFound ranges l choose f → IsWithin (IsLocalTime l) f
+sys_within : (l : ℤ) (choose : Option Choose) (ranges : List SysInfo) (f : Found) → IsSysFound ranges l choose f → KeepsRange (IsLocalTime l) f
 sys_within l choose ranges (found.Sys t) is = is.0
 sys_within l choose ranges (found.Undecided info) is = is.1
 sys_within l choose ranges found.Range is = is
 sys_within l choose ranges f is = absurd is
 
-pub choice_within : (choice : Choice) (l : ℤ) (ranges : List SysInfo) (f : Found) → IsFoundByChoice choice l ranges f → IsWithin (IsLocalTime l) f
+pub choice_within : (choice : Choice) (l : ℤ) (ranges : List SysInfo) (f : Found) → IsFoundByChoice choice l ranges f → KeepsRange (IsLocalTime l) f
 choice_within choices.None l ranges f is = local_within l ranges f is
 choice_within choices.Strict l ranges f is = sys_within l None ranges f is
 choice_within choices.Earliest l ranges f is = sys_within l (Some Earliest) ranges f is
@@ -95,7 +95,7 @@ module _ (source : Source) (name : List ℕ) (inside : Type 0) (finds : List Sys
   at_status r s line same told = subst (λ (status : Status). Told status line) (sym same) told
 
   -- the line of what is found, at its status, is an answer
-  line_gives : (f : Found) (status : Status) (line : List ℕ) → IsWithin inside f → finds (expansion_of zone) f → status ≡ found_status f → line ≡ found_line f → Told status line
+  line_gives : (f : Found) (status : Status) (line : List ℕ) → KeepsRange inside f → finds (expansion_of zone) f → status ≡ found_status f → line ≡ found_line f → Told status line
   line_gives (found.Info range) status line within is at told = at_status statuses.Ok status line at (told_well (found.Info range) line within is refl told)
   line_gives (found.Local info) status line within is at told = at_status statuses.Ok status line at (told_well (found.Local info) line within is refl told)
   line_gives (found.Sys t) status line within is at told = at_status statuses.Ok status line at (told_well (found.Sys t) line within is refl told)
@@ -108,7 +108,7 @@ module _ (source : Source) (name : List ℕ) (inside : Type 0) (finds : List Sys
       at_status statuses.Range status line at (record { db = named.db; reads = named.reads; there = rw named.named refl; outside = within }, told)
 
   -- what a command comes to that finds this in the zone named is an answer
-  pub zone_lookup_gives : (f : Found) (result : Result Output Refusal) → IsWithin inside f → finds (expansion_of zone) f → GivesOutput (Exactly (found_status f) (found_line f)) result → GivesOutput Told result
+  pub zone_lookup_gives : (f : Found) (result : Result Output Refusal) → KeepsRange inside f → finds (expansion_of zone) f → GivesOutput (Exactly (found_status f) (found_line f)) result → GivesOutput Told result
   zone_lookup_gives f (Ok output) within is told = line_gives f (output_status output) (output_text output) within is told.0 told.1
   zone_lookup_gives f (Err refusals.Memory) within is told = tt
   zone_lookup_gives f (Err refusal) within is told = line_gives f (refusal_status refusal) (refusal_line refusal) within is told.0 told.1

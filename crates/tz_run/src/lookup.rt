@@ -3,7 +3,7 @@
 //!
 //! The name is looked up first, so where it stands for no zone that is found, whatever the time. A lookup in the zone
 //! compares no texts and allocates nothing for itself; what the zone keeps of its windows changes nothing that is found.
-ghost use Rattle.std.specs.Prelude.{◌≡◌, ◌≤◌, ◌^◌};
+ghost use Rattle.std.specs.Prelude.{◌≤◌, ◌^◌};
 ghost use Rattle.jiff_core.specs.Calendar.{IsWithin};
 ghost use Rattle.tz_windows.specs.declared.scan.TheConstants.{MOST_LOOKS};
 ghost use Rattle.tz_batch.specs.Finding.{FindsInfo, FindsLocal, FindsSys, FindsScan, FindsInZone, FindsByClock};
