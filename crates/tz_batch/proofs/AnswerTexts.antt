@@ -1,107 +1,85 @@
--- What the text of an answer settles, where the operation is known.
-use Rattle.std.proofs.Common.{◌≡◌, ℕ, zero, suc, ◌≤◌, List, [], ◌∷◌, ◌++◌, length, map, get_or, refl, sym, ap, ◌∙◌, arith, append_assoc}
+-- What the text of an answer settles, where the operation, its position and the journal are known.
+use Rattle.std.proofs.Common.{◌≡◌, ℕ, zero, suc, ◌+◌, ◌≤◌, ◌<◌, ◌^◌, List, [], ◌∷◌, ◌++◌, length, map, get_or, take, true, option_map, slice_get, refl, sym, ap, subst, ◌∙◌, arith, append_assoc}
 use Rattle.std.specs.Fmt.{decimal}
 use Rattle.std.specs.Prelude.{codes}
-use Rattle.std.proofs.lemmas.Fmt.{decimal_injective}
+use Rattle.std.proofs.Math.Nat.{suc_inj}
 use Rattle.std.proofs.lemmas.List.{append_cancel_left}
+use Rattle.std.proofs.lemmas.Option.{same_Some}
 use mathlib.Core.HLevel.{is_prop→PathP}
 use Rattle.std.proofs.Props.{props}
 use Rattle.tz_script.specs.declared.operation.Pick.{Pick}
+use Rattle.tz_script.specs.declared.operation.Pick.TheVariants.{Front, Held}
 use Rattle.pin_book.specs.declared.limits.TheConstants.{MOST_SLOTS}
-use Rattle.tz_batch.specs.OutcomeText.{version_text, of_several, refusal_text, answer_text}
-use Rattle.tz_batch.specs.Fitting.{FitsWord, FitsAnswer}
-use Rattle.tz_batch.specs.Batch.{Answered, row_of}
-use Rattle.tz_batch.specs.Round.{Round, list_at}
-use Rattle.tz_batch.specs.Answering.{AnswersLook, AnswersHold, AnswersDrop, AnswersReload, AnswersErase, AnswersList}
+use Rattle.pin_book.specs.declared.write.Change.{Change}
+use Rattle.pin_book.specs.declared.write.Change.TheVariants.{Push, Erase}
+use Rattle.pin_book.specs.declared.write.Write.{Write}
+use Rattle.pin_book.specs.Replay.{Edition, front_of, state_after, replays}
+use Rattle.tz_types.specs.declared.fault.Fault.{Fault}
+use Rattle.tz_version.specs.declared.sources.Sources.{Sources}
+use Rattle.tz_batch.specs.OutcomeText.{after_space, version_text, found_text, answer_text}
+use Rattle.tz_batch.specs.Batch.{Answered, name_of_source, row_of}
+use Rattle.tz_batch.specs.Round.{Round, list_at, newest_at}
+use Rattle.tz_batch.specs.Held.{LooksInto}
+use Rattle.tz_batch.specs.Answering.{IsToldAs, IsChangeAfter, IsRefusedWith, IsAccepted, HasNameOf, ErasesBehind, ErasesBehindTold, AnswersLook, AnswersHold, AnswersDrop, AnswersReload, AnswersErase, AnswersList, AnswersLookup}
 use Rattle.tz_batch.specs.declared.answer.Answer.{Answer}
 use Rattle.tz_batch.specs.declared.answer.Answer.TheVariants as answers
+use Rattle.tz_batch.specs.declared.found.Found.{Found}
 use Rattle.tz_batch.specs.declared.listing.Listing.{Listing}
-use Rattle.tz_batch.proofs.NumberCuts.{number_ends, number_before}
-use Rattle.tz_batch.proofs.WriteTexts.{wider, apart, four_pieces}
+use Rattle.tz_batch.proofs.Fronts.{number_of, front_by_number}
+use Rattle.tz_batch.proofs.JournalBounds.{front_low}
+use Rattle.tz_batch.proofs.NumberCuts.{number_before}
+use Rattle.tz_batch.proofs.RefusedOnce.{refused_once}
+use Rattle.tz_batch.proofs.WriteTexts.{apart, three_pieces}
 
-abbrev first_byte : List ℕ → ℕ
-first_byte text = get_or text 0 0
+abbrev byte_at : ℕ → List ℕ → ℕ
+byte_at place text = get_or text place 0
 
-abbrev text_length : List ℕ → ℕ
-text_length text = length text
+abbrev slot_of : Edition → ℕ
+slot_of edition = edition.slot
 
--- a version's number and slot are settled by their text
-version_settled : (n slot m place : ℕ) → FitsWord n × FitsWord slot → FitsWord m × FitsWord place
-    → version_text n slot ≡ version_text m place → (n ≡ m) × (slot ≡ place)
-version_settled n slot m place fits_x fits_y e =
-    let first = number_before 32 n m (decimal slot) (decimal place) (omega arith) (wider n fits_x.0) (wider m fits_y.0) e in
-    (first.0, decimal_injective slot place (wider slot fits_x.1) (wider place fits_y.1) first.1)
+-- two rounds over one journal, which isn't too long
+pub record AreAlike (p q : Round) : Type 0 where
+  pub slots : p.slots ≡ q.slots
+  pub sources : p.sources ≡ q.sources
+  pub journal : p.journal ≡ q.journal
+  pub replay : replays p.slots p.journal ≡ true
+  pub few : length p.journal ≤ 2 ^ 24
 
--- the same where a space follows
-pub version_before : (n slot m place : ℕ) (x y : List ℕ) → FitsWord n × FitsWord slot → FitsWord m × FitsWord place
-    → version_text n slot ++ 32 ∷ x ≡ version_text m place ++ 32 ∷ y → (n ≡ m) × (slot ≡ place) × (x ≡ y)
-version_before n slot m place x y fits_x fits_y e =
-    let laid : decimal n ++ 32 ∷ (decimal slot ++ 32 ∷ x) ≡ decimal m ++ 32 ∷ (decimal place ++ 32 ∷ y) = sym (append_assoc (decimal n) (32 ∷ decimal slot) (32 ∷ x)) ∙ e ∙ append_assoc (decimal m) (32 ∷ decimal place) (32 ∷ y) in
-    let first = number_before 32 n m (decimal slot ++ 32 ∷ x) (decimal place ++ 32 ∷ y) (omega arith) (wider n fits_x.0) (wider m fits_y.0) laid in
-    let second = number_before 32 slot place x y (omega arith) (wider slot fits_x.1) (wider place fits_y.1) first.1 in
-    (first.0, second.0, second.1)
+-- the version was at the front at some position
+abbrev pub WasFront : Round → Edition → Type 0
+WasFront round edition = (w : ℕ) × (edition ≡ newest_at round w)
+
+looks_at : (round : Round) (before : List Answered) (here : Answered) (pick : Pick) (edition : Edition) → LooksInto round before here pick edition → WasFront round edition
+looks_at round before here Front edition h = (here.reply.w, h)
+looks_at round before here (Held name) edition h = (h.begun.reply.w, h.version)
+
+erases_at : (round : Round) (before : List Answered) (here : Answered) (pick : Pick) (met : ℕ) (edition : Edition) → ErasesBehind round before here pick met edition → WasFront round edition
+erases_at round before here Front met edition h = (h.0, h.3)
+erases_at round before here (Held name) met edition h = (h.begun.reply.w, h.version)
 
 made_same : (make : ℕ → ℕ → Answer) (n slot m place : ℕ) → n ≡ m → slot ≡ place → make n slot ≡ make m place
 made_same make n slot m place one two = cc
 
--- an answer that is a word and a version
-told_by_word : (make : ℕ → ℕ → Answer) (word : List ℕ) (n slot m place : ℕ) → FitsWord n × FitsWord slot → FitsWord m × FitsWord place
-    → word ++ version_text n slot ≡ word ++ version_text m place → make n slot ≡ make m place
-told_by_word make word n slot m place fits_x fits_y e =
-    let both = version_settled n slot m place fits_x fits_y (append_cancel_left word (version_text n slot) (version_text m place) e) in
-    made_same make n slot m place both.0 both.1
+-- answers that tell one version are one
+told_alike : (make : ℕ → ℕ → Answer) (e o : Edition) (n slot m place : ℕ) → e ≡ o → IsToldAs e n slot → IsToldAs o m place → make n slot ≡ make m place
+told_alike make e o n slot m place same h k =
+    made_same make n slot m place (sym h.0 ∙ ap number_of same ∙ k.0) (sym h.1 ∙ ap slot_of same ∙ k.1)
 
--- an answer that is a version and a word
-told_before_word : (make : ℕ → ℕ → Answer) (word : List ℕ) (n slot m place : ℕ) → FitsWord n × FitsWord slot → FitsWord m × FitsWord place
-    → version_text n slot ++ 32 ∷ word ≡ version_text m place ++ 32 ∷ word → make n slot ≡ make m place
-told_before_word make word n slot m place fits_x fits_y e =
-    let both = version_before n slot m place word word fits_x fits_y e in
-    made_same make n slot m place both.0 both.1
-
-erased_is_laid : (n slot gone : ℕ) → version_text n slot ++ codes " erased" ++ 32 ∷ decimal gone ≡ version_text n slot ++ 32 ∷ (codes "erased " ++ decimal gone)
-erased_is_laid n slot gone = append_assoc (version_text n slot) (codes " erased") (32 ∷ decimal gone)
+on_same : (n slot m place : ℕ) (what that : Found) → n ≡ m → slot ≡ place → what ≡ that → answers.On n slot what ≡ answers.On m place that
+on_same n slot m place what that one two three = cc
 
 erased_same : (n slot gone m place lost : ℕ) → n ≡ m → slot ≡ place → gone ≡ lost → answers.Erased n slot gone ≡ answers.Erased m place lost
 erased_same n slot gone m place lost one two three = cc
 
-erasure_settled : (n slot gone m place lost : ℕ) → FitsWord n × FitsWord slot × FitsWord gone → FitsWord m × FitsWord place × FitsWord lost
-    → version_text n slot ++ codes " erased" ++ 32 ∷ decimal gone ≡ version_text m place ++ codes " erased" ++ 32 ∷ decimal lost
-    → answers.Erased n slot gone ≡ answers.Erased m place lost
-erasure_settled n slot gone m place lost fits_x fits_y e =
-    let both = version_before n slot m place (codes "erased " ++ decimal gone) (codes "erased " ++ decimal lost) (fits_x.0, fits_x.1) (fits_y.0, fits_y.1) (sym (erased_is_laid n slot gone) ∙ e ∙ erased_is_laid m place lost) in
-    erased_same n slot gone m place lost both.0 both.1 (decimal_injective gone lost (wider gone fits_x.2) (wider lost fits_y.2) (append_cancel_left (codes "erased ") (decimal gone) (decimal lost) both.2))
+refused_same : (a b : Fault) → a ≡ b → answers.Refused a.file a.line a.cause ≡ answers.Refused b.file b.line b.cause
+refused_same a b same = ap (λ (it : Fault). answers.Refused it.file it.line it.cause) same
 
--- a cause, and the file where it is told, are settled by their text
-cause_settled : (cause other_cause file other_file : ℕ) → FitsWord cause → FitsWord other_cause → FitsWord file → FitsWord other_file
-    → decimal cause ++ (of_several file ++ 10 ∷ []) ≡ decimal other_cause ++ (of_several other_file ++ 10 ∷ []) → (cause ≡ other_cause) × (file ≡ other_file)
-cause_settled cause other_cause zero zero one two three four e =
-    let cut = number_before 10 cause other_cause [] [] (omega arith) (wider cause one) (wider other_cause two) e in (cut.0, refl)
-cause_settled cause other_cause zero (suc other_file) one two three four e =
-    let cut = number_ends cause other_cause 10 32 [] (codes "in " ++ (decimal (suc other_file) ++ 10 ∷ [])) (wider cause one) (wider other_cause two) (omega arith) (omega arith) e in
-    absurd (apart 32 10 (omega arith) (sym (ap first_byte cut.1)))
-cause_settled cause other_cause (suc file) zero one two three four e =
-    let cut = number_ends cause other_cause 32 10 (codes "in " ++ (decimal (suc file) ++ 10 ∷ [])) [] (wider cause one) (wider other_cause two) (omega arith) (omega arith) e in
-    absurd (apart 32 10 (omega arith) (ap first_byte cut.1))
-cause_settled cause other_cause (suc file) (suc other_file) one two three four e =
-    let cut = number_before 32 cause other_cause (codes "in " ++ (decimal (suc file) ++ 10 ∷ [])) (codes "in " ++ (decimal (suc other_file) ++ 10 ∷ [])) (omega arith) (wider cause one) (wider other_cause two) e in
-    let last = number_before 10 (suc file) (suc other_file) [] [] (omega arith) (wider (suc file) three) (wider (suc other_file) four) (append_cancel_left (codes "in ") (decimal (suc file) ++ 10 ∷ []) (decimal (suc other_file) ++ 10 ∷ []) cut.1) in
-    (cut.0, last.0)
+-- of a push, the number and the slot are told
+pushed_same : (n src slot m place : ℕ) → Push n src slot ≡ Push m src place → answers.Pushed n slot ≡ answers.Pushed m place
+pushed_same n src slot m place same = cc
 
-refused_same : (file line cause other_file other_line other_cause : ℕ) → file ≡ other_file → line ≡ other_line → cause ≡ other_cause
-    → answers.Refused file line cause ≡ answers.Refused other_file other_line other_cause
-refused_same file line cause other_file other_line other_cause one two three = cc
-
-refusal_settled : (file line cause other_file other_line other_cause : ℕ) → FitsWord file → FitsWord line → FitsWord cause
-    → FitsWord other_file → FitsWord other_line → FitsWord other_cause
-    → refusal_text file line cause ≡ refusal_text other_file other_line other_cause
-    → answers.Refused file line cause ≡ answers.Refused other_file other_line other_cause
-unfolding refusal_text
-refusal_settled file line cause other_file other_line other_cause one two three four five six e =
-    let laid : codes "refused " ++ (decimal line ++ 32 ∷ (decimal cause ++ (of_several file ++ 10 ∷ []))) ≡ codes "refused " ++ (decimal other_line ++ 32 ∷ (decimal other_cause ++ (of_several other_file ++ 10 ∷ []))) = sym (four_pieces (codes "refused") (32 ∷ decimal line) (32 ∷ decimal cause) (of_several file) (10 ∷ [])) ∙ ap (λ t. t ++ 10 ∷ []) e ∙ four_pieces (codes "refused") (32 ∷ decimal other_line) (32 ∷ decimal other_cause) (of_several other_file) (10 ∷ []) in
-    let behind_word = append_cancel_left (codes "refused ") (decimal line ++ 32 ∷ (decimal cause ++ (of_several file ++ 10 ∷ []))) (decimal other_line ++ 32 ∷ (decimal other_cause ++ (of_several other_file ++ 10 ∷ []))) laid in
-    let first = number_before 32 line other_line (decimal cause ++ (of_several file ++ 10 ∷ [])) (decimal other_cause ++ (of_several other_file ++ 10 ∷ [])) (omega arith) (wider line two) (wider other_line five) behind_word in
-    let last = cause_settled cause other_cause file other_file three six one four first.1 in
-    refused_same file line cause other_file other_line other_cause last.1 first.0 last.0
+gone_same : (n gone m lost : ℕ) → Erase n gone ≡ Erase m lost → gone ≡ lost
+gone_same n gone m lost same = cc
 
 listing_same : (x y : Listing) → x.w ≡ y.w → x.rows ≡ y.rows → x ≡ y
 listing_same x y one two = λ i. record {
@@ -110,220 +88,177 @@ listing_same x y one two = λ i. record {
   few_rows = is_prop→PathP (λ j. length (two j) ≤ MOST_SLOTS) (λ j. hlevel props) x.few_rows y.few_rows i;
 }
 
--- a reply to `look` is settled by its text
-pub look_settled : (p q : Round) (w v : ℕ) (x y : Answer) → AnswersLook p w x → AnswersLook q v y → FitsAnswer x → FitsAnswer y
-    → answer_text x ≡ answer_text y → x ≡ y
-look_settled p q w v (answers.Front n slot) (answers.Front m place) h k fits_x fits_y e = told_by_word answers.Front (codes "front ") n slot m place fits_x fits_y e
-look_settled p q w v (answers.Front n slot) (answers.Held m place) h k fits_x fits_y e = absurd k
-look_settled p q w v (answers.Front n slot) (answers.Dropped m place) h k fits_x fits_y e = absurd k
-look_settled p q w v (answers.Front n slot) (answers.Pushed m place) h k fits_x fits_y e = absurd k
-look_settled p q w v (answers.Front n slot) (answers.Same m) h k fits_x fits_y e = absurd k
-look_settled p q w v (answers.Front n slot) answers.Full h k fits_x fits_y e = absurd k
-look_settled p q w v (answers.Front n slot) (answers.Refused other_file other_line other_cause) h k fits_x fits_y e = absurd k
-look_settled p q w v (answers.Front n slot) (answers.Erased m place lost) h k fits_x fits_y e = absurd k
-look_settled p q w v (answers.Front n slot) (answers.Nothing m place) h k fits_x fits_y e = absurd k
-look_settled p q w v (answers.Front n slot) (answers.NotListed m place) h k fits_x fits_y e = absurd k
-look_settled p q w v (answers.Front n slot) (answers.Listed other) h k fits_x fits_y e = absurd k
-look_settled p q w v (answers.Front n slot) (answers.On m place that) h k fits_x fits_y e = absurd k
-look_settled p q w v (answers.Held n slot) y h k fits_x fits_y e = absurd h
-look_settled p q w v (answers.Dropped n slot) y h k fits_x fits_y e = absurd h
-look_settled p q w v (answers.Pushed n slot) y h k fits_x fits_y e = absurd h
-look_settled p q w v (answers.Same n) y h k fits_x fits_y e = absurd h
-look_settled p q w v answers.Full y h k fits_x fits_y e = absurd h
-look_settled p q w v (answers.Refused file line cause) y h k fits_x fits_y e = absurd h
-look_settled p q w v (answers.Erased n slot gone) y h k fits_x fits_y e = absurd h
-look_settled p q w v (answers.Nothing n slot) y h k fits_x fits_y e = absurd h
-look_settled p q w v (answers.NotListed n slot) y h k fits_x fits_y e = absurd h
-look_settled p q w v (answers.Listed listing) y h k fits_x fits_y e = absurd h
-look_settled p q w v (answers.On n slot what) y h k fits_x fits_y e = absurd h
+module _ (p q : Round) (alike : AreAlike p q) where
+  -- at one position one version is at the front
+  same_newest : (w v : ℕ) → w ≡ v → newest_at p w ≡ newest_at q v
+  same_newest w v at = λ i. front_of (state_after (alike.slots i) (take (at i) (alike.journal i))).listed
 
--- a reply to `hold` is settled by its text
-pub hold_settled : (p q : Round) (w v : ℕ) (x y : Answer) → AnswersHold p w x → AnswersHold q v y → FitsAnswer x → FitsAnswer y
-    → answer_text x ≡ answer_text y → x ≡ y
-hold_settled p q w v (answers.Front n slot) y h k fits_x fits_y e = absurd h
-hold_settled p q w v (answers.Held n slot) (answers.Front m place) h k fits_x fits_y e = absurd k
-hold_settled p q w v (answers.Held n slot) (answers.Held m place) h k fits_x fits_y e = told_by_word answers.Held (codes "held ") n slot m place fits_x fits_y e
-hold_settled p q w v (answers.Held n slot) (answers.Dropped m place) h k fits_x fits_y e = absurd k
-hold_settled p q w v (answers.Held n slot) (answers.Pushed m place) h k fits_x fits_y e = absurd k
-hold_settled p q w v (answers.Held n slot) (answers.Same m) h k fits_x fits_y e = absurd k
-hold_settled p q w v (answers.Held n slot) answers.Full h k fits_x fits_y e = absurd k
-hold_settled p q w v (answers.Held n slot) (answers.Refused other_file other_line other_cause) h k fits_x fits_y e = absurd k
-hold_settled p q w v (answers.Held n slot) (answers.Erased m place lost) h k fits_x fits_y e = absurd k
-hold_settled p q w v (answers.Held n slot) (answers.Nothing m place) h k fits_x fits_y e = absurd k
-hold_settled p q w v (answers.Held n slot) (answers.NotListed m place) h k fits_x fits_y e = absurd k
-hold_settled p q w v (answers.Held n slot) (answers.Listed other) h k fits_x fits_y e = absurd k
-hold_settled p q w v (answers.Held n slot) (answers.On m place that) h k fits_x fits_y e = absurd k
-hold_settled p q w v (answers.Dropped n slot) y h k fits_x fits_y e = absurd h
-hold_settled p q w v (answers.Pushed n slot) y h k fits_x fits_y e = absurd h
-hold_settled p q w v (answers.Same n) y h k fits_x fits_y e = absurd h
-hold_settled p q w v answers.Full y h k fits_x fits_y e = absurd h
-hold_settled p q w v (answers.Refused file line cause) y h k fits_x fits_y e = absurd h
-hold_settled p q w v (answers.Erased n slot gone) y h k fits_x fits_y e = absurd h
-hold_settled p q w v (answers.Nothing n slot) y h k fits_x fits_y e = absurd h
-hold_settled p q w v (answers.NotListed n slot) y h k fits_x fits_y e = absurd h
-hold_settled p q w v (answers.Listed listing) y h k fits_x fits_y e = absurd h
-hold_settled p q w v (answers.On n slot what) y h k fits_x fits_y e = absurd h
+  -- and one write stands behind it
+  same_change : (w v : ℕ) (change other : Change) → w ≡ v → IsChangeAfter p w change → IsChangeAfter q v other → change ≡ other
+  same_change w v change other at h k =
+      same_Some change other (sym h ∙ (λ i. option_map (λ (write : Write). write.change) (slice_get (alike.journal i) (at i))) ∙ k)
 
--- a reply to `drop` is settled by its text
-pub drop_settled : (p q : Round) (before : List Answered) (here there : Answered) (name : List ℕ) (x y : Answer) → AnswersDrop p before here name x → AnswersDrop q before there name y → FitsAnswer x → FitsAnswer y
-    → answer_text x ≡ answer_text y → x ≡ y
-drop_settled p q before here there name (answers.Front n slot) y h k fits_x fits_y e = absurd h
-drop_settled p q before here there name (answers.Held n slot) y h k fits_x fits_y e = absurd h
-drop_settled p q before here there name (answers.Dropped n slot) (answers.Front m place) h k fits_x fits_y e = absurd k
-drop_settled p q before here there name (answers.Dropped n slot) (answers.Held m place) h k fits_x fits_y e = absurd k
-drop_settled p q before here there name (answers.Dropped n slot) (answers.Dropped m place) h k fits_x fits_y e = told_by_word answers.Dropped (codes "dropped ") n slot m place fits_x fits_y e
-drop_settled p q before here there name (answers.Dropped n slot) (answers.Pushed m place) h k fits_x fits_y e = absurd k
-drop_settled p q before here there name (answers.Dropped n slot) (answers.Same m) h k fits_x fits_y e = absurd k
-drop_settled p q before here there name (answers.Dropped n slot) answers.Full h k fits_x fits_y e = absurd k
-drop_settled p q before here there name (answers.Dropped n slot) (answers.Refused other_file other_line other_cause) h k fits_x fits_y e = absurd k
-drop_settled p q before here there name (answers.Dropped n slot) (answers.Erased m place lost) h k fits_x fits_y e = absurd k
-drop_settled p q before here there name (answers.Dropped n slot) (answers.Nothing m place) h k fits_x fits_y e = absurd k
-drop_settled p q before here there name (answers.Dropped n slot) (answers.NotListed m place) h k fits_x fits_y e = absurd k
-drop_settled p q before here there name (answers.Dropped n slot) (answers.Listed other) h k fits_x fits_y e = absurd k
-drop_settled p q before here there name (answers.Dropped n slot) (answers.On m place that) h k fits_x fits_y e = absurd k
-drop_settled p q before here there name (answers.Pushed n slot) y h k fits_x fits_y e = absurd h
-drop_settled p q before here there name (answers.Same n) y h k fits_x fits_y e = absurd h
-drop_settled p q before here there name answers.Full y h k fits_x fits_y e = absurd h
-drop_settled p q before here there name (answers.Refused file line cause) y h k fits_x fits_y e = absurd h
-drop_settled p q before here there name (answers.Erased n slot gone) y h k fits_x fits_y e = absurd h
-drop_settled p q before here there name (answers.Nothing n slot) y h k fits_x fits_y e = absurd h
-drop_settled p q before here there name (answers.NotListed n slot) y h k fits_x fits_y e = absurd h
-drop_settled p q before here there name (answers.Listed listing) y h k fits_x fits_y e = absurd h
-drop_settled p q before here there name (answers.On n slot what) y h k fits_x fits_y e = absurd h
+  same_name : (src w v : ℕ) → w ≡ v → HasNameOf p w src → HasNameOf q v src
+  same_name src w v at h =
+      sym (λ i. name_of_source (alike.sources i) (same_newest w v at i).src) ∙ h ∙ (λ i. name_of_source (alike.sources i) src)
 
--- a reply to `reload` is settled by its text
-pub reload_settled : (p q : Round) (src w v : ℕ) (x y : Answer) → AnswersReload p src w x → AnswersReload q src v y → FitsAnswer x → FitsAnswer y
-    → answer_text x ≡ answer_text y → x ≡ y
-unfolding refusal_text
-reload_settled p q src w v (answers.Front n slot) y h k fits_x fits_y e = absurd h
-reload_settled p q src w v (answers.Held n slot) y h k fits_x fits_y e = absurd h
-reload_settled p q src w v (answers.Dropped n slot) y h k fits_x fits_y e = absurd h
-reload_settled p q src w v (answers.Pushed n slot) (answers.Front m place) h k fits_x fits_y e = absurd k
-reload_settled p q src w v (answers.Pushed n slot) (answers.Held m place) h k fits_x fits_y e = absurd k
-reload_settled p q src w v (answers.Pushed n slot) (answers.Dropped m place) h k fits_x fits_y e = absurd k
-reload_settled p q src w v (answers.Pushed n slot) (answers.Pushed m place) h k fits_x fits_y e = told_by_word answers.Pushed (codes "pushed ") n slot m place fits_x fits_y e
-reload_settled p q src w v (answers.Pushed n slot) (answers.Same m) h k fits_x fits_y e = absurd (apart 115 112 (omega arith) (sym (ap first_byte e)))
-reload_settled p q src w v (answers.Pushed n slot) answers.Full h k fits_x fits_y e = absurd (apart 112 102 (omega arith) (ap first_byte e))
-reload_settled p q src w v (answers.Pushed n slot) (answers.Refused other_file other_line other_cause) h k fits_x fits_y e = absurd (apart 114 112 (omega arith) (sym (ap first_byte e)))
-reload_settled p q src w v (answers.Pushed n slot) (answers.Erased m place lost) h k fits_x fits_y e = absurd k
-reload_settled p q src w v (answers.Pushed n slot) (answers.Nothing m place) h k fits_x fits_y e = absurd k
-reload_settled p q src w v (answers.Pushed n slot) (answers.NotListed m place) h k fits_x fits_y e = absurd k
-reload_settled p q src w v (answers.Pushed n slot) (answers.Listed other) h k fits_x fits_y e = absurd k
-reload_settled p q src w v (answers.Pushed n slot) (answers.On m place that) h k fits_x fits_y e = absurd k
-reload_settled p q src w v (answers.Same n) (answers.Front m place) h k fits_x fits_y e = absurd k
-reload_settled p q src w v (answers.Same n) (answers.Held m place) h k fits_x fits_y e = absurd k
-reload_settled p q src w v (answers.Same n) (answers.Dropped m place) h k fits_x fits_y e = absurd k
-reload_settled p q src w v (answers.Same n) (answers.Pushed m place) h k fits_x fits_y e = absurd (apart 115 112 (omega arith) (ap first_byte e))
-reload_settled p q src w v (answers.Same n) (answers.Same m) h k fits_x fits_y e = ap answers.Same (decimal_injective n m (wider n fits_x) (wider m fits_y) (append_cancel_left (codes "same ") (decimal n) (decimal m) e))
-reload_settled p q src w v (answers.Same n) answers.Full h k fits_x fits_y e = absurd (apart 115 102 (omega arith) (ap first_byte e))
-reload_settled p q src w v (answers.Same n) (answers.Refused other_file other_line other_cause) h k fits_x fits_y e = absurd (apart 115 114 (omega arith) (ap first_byte e))
-reload_settled p q src w v (answers.Same n) (answers.Erased m place lost) h k fits_x fits_y e = absurd k
-reload_settled p q src w v (answers.Same n) (answers.Nothing m place) h k fits_x fits_y e = absurd k
-reload_settled p q src w v (answers.Same n) (answers.NotListed m place) h k fits_x fits_y e = absurd k
-reload_settled p q src w v (answers.Same n) (answers.Listed other) h k fits_x fits_y e = absurd k
-reload_settled p q src w v (answers.Same n) (answers.On m place that) h k fits_x fits_y e = absurd k
-reload_settled p q src w v answers.Full (answers.Front m place) h k fits_x fits_y e = absurd k
-reload_settled p q src w v answers.Full (answers.Held m place) h k fits_x fits_y e = absurd k
-reload_settled p q src w v answers.Full (answers.Dropped m place) h k fits_x fits_y e = absurd k
-reload_settled p q src w v answers.Full (answers.Pushed m place) h k fits_x fits_y e = absurd (apart 112 102 (omega arith) (sym (ap first_byte e)))
-reload_settled p q src w v answers.Full (answers.Same m) h k fits_x fits_y e = absurd (apart 115 102 (omega arith) (sym (ap first_byte e)))
-reload_settled p q src w v answers.Full answers.Full h k fits_x fits_y e = refl
-reload_settled p q src w v answers.Full (answers.Refused other_file other_line other_cause) h k fits_x fits_y e = absurd (apart 114 102 (omega arith) (sym (ap first_byte e)))
-reload_settled p q src w v answers.Full (answers.Erased m place lost) h k fits_x fits_y e = absurd k
-reload_settled p q src w v answers.Full (answers.Nothing m place) h k fits_x fits_y e = absurd k
-reload_settled p q src w v answers.Full (answers.NotListed m place) h k fits_x fits_y e = absurd k
-reload_settled p q src w v answers.Full (answers.Listed other) h k fits_x fits_y e = absurd k
-reload_settled p q src w v answers.Full (answers.On m place that) h k fits_x fits_y e = absurd k
-reload_settled p q src w v (answers.Refused file line cause) (answers.Front m place) h k fits_x fits_y e = absurd k
-reload_settled p q src w v (answers.Refused file line cause) (answers.Held m place) h k fits_x fits_y e = absurd k
-reload_settled p q src w v (answers.Refused file line cause) (answers.Dropped m place) h k fits_x fits_y e = absurd k
-reload_settled p q src w v (answers.Refused file line cause) (answers.Pushed m place) h k fits_x fits_y e = absurd (apart 114 112 (omega arith) (ap first_byte e))
-reload_settled p q src w v (answers.Refused file line cause) (answers.Same m) h k fits_x fits_y e = absurd (apart 115 114 (omega arith) (sym (ap first_byte e)))
-reload_settled p q src w v (answers.Refused file line cause) answers.Full h k fits_x fits_y e = absurd (apart 114 102 (omega arith) (ap first_byte e))
-reload_settled p q src w v (answers.Refused file line cause) (answers.Refused other_file other_line other_cause) h k fits_x fits_y e = refusal_settled file line cause other_file other_line other_cause fits_x.0 fits_x.1 fits_x.2 fits_y.0 fits_y.1 fits_y.2 e
-reload_settled p q src w v (answers.Refused file line cause) (answers.Erased m place lost) h k fits_x fits_y e = absurd k
-reload_settled p q src w v (answers.Refused file line cause) (answers.Nothing m place) h k fits_x fits_y e = absurd k
-reload_settled p q src w v (answers.Refused file line cause) (answers.NotListed m place) h k fits_x fits_y e = absurd k
-reload_settled p q src w v (answers.Refused file line cause) (answers.Listed other) h k fits_x fits_y e = absurd k
-reload_settled p q src w v (answers.Refused file line cause) (answers.On m place that) h k fits_x fits_y e = absurd k
-reload_settled p q src w v (answers.Erased n slot gone) y h k fits_x fits_y e = absurd h
-reload_settled p q src w v (answers.Nothing n slot) y h k fits_x fits_y e = absurd h
-reload_settled p q src w v (answers.NotListed n slot) y h k fits_x fits_y e = absurd h
-reload_settled p q src w v (answers.Listed listing) y h k fits_x fits_y e = absurd h
-reload_settled p q src w v (answers.On n slot what) y h k fits_x fits_y e = absurd h
+  same_refusal : (src : ℕ) (fault : Fault) → IsRefusedWith p.sources src fault → IsRefusedWith q.sources src fault
+  same_refusal src fault h = subst (λ (sources : Sources). IsRefusedWith sources src fault) alike.sources h
 
--- a reply to `erase` is settled by its text
-pub erase_settled : (p q : Round) (before : List Answered) (here there : Answered) (pick : Pick) (w v : ℕ) (x y : Answer) → AnswersErase p before here pick w x → AnswersErase q before there pick v y → FitsAnswer x → FitsAnswer y
-    → answer_text x ≡ answer_text y → x ≡ y
-erase_settled p q before here there pick w v (answers.Front n slot) y h k fits_x fits_y e = absurd h
-erase_settled p q before here there pick w v (answers.Held n slot) y h k fits_x fits_y e = absurd h
-erase_settled p q before here there pick w v (answers.Dropped n slot) y h k fits_x fits_y e = absurd h
-erase_settled p q before here there pick w v (answers.Pushed n slot) y h k fits_x fits_y e = absurd h
-erase_settled p q before here there pick w v (answers.Same n) y h k fits_x fits_y e = absurd h
-erase_settled p q before here there pick w v answers.Full y h k fits_x fits_y e = absurd h
-erase_settled p q before here there pick w v (answers.Refused file line cause) y h k fits_x fits_y e = absurd h
-erase_settled p q before here there pick w v (answers.Erased n slot gone) (answers.Front m place) h k fits_x fits_y e = absurd k
-erase_settled p q before here there pick w v (answers.Erased n slot gone) (answers.Held m place) h k fits_x fits_y e = absurd k
-erase_settled p q before here there pick w v (answers.Erased n slot gone) (answers.Dropped m place) h k fits_x fits_y e = absurd k
-erase_settled p q before here there pick w v (answers.Erased n slot gone) (answers.Pushed m place) h k fits_x fits_y e = absurd k
-erase_settled p q before here there pick w v (answers.Erased n slot gone) (answers.Same m) h k fits_x fits_y e = absurd k
-erase_settled p q before here there pick w v (answers.Erased n slot gone) answers.Full h k fits_x fits_y e = absurd k
-erase_settled p q before here there pick w v (answers.Erased n slot gone) (answers.Refused other_file other_line other_cause) h k fits_x fits_y e = absurd k
-erase_settled p q before here there pick w v (answers.Erased n slot gone) (answers.Erased m place lost) h k fits_x fits_y e = erasure_settled n slot gone m place lost fits_x fits_y e
-erase_settled p q before here there pick w v (answers.Erased n slot gone) (answers.Nothing m place) h k fits_x fits_y e = absurd (apart 110 101 (omega arith) (sym (ap first_byte (version_before n slot m place (codes "erased " ++ decimal gone) (codes "nothing") (fits_x.0, fits_x.1) fits_y (sym (erased_is_laid n slot gone) ∙ e)).2)))
-erase_settled p q before here there pick w v (answers.Erased n slot gone) (answers.NotListed m place) h k fits_x fits_y e = absurd (apart 110 101 (omega arith) (sym (ap first_byte (version_before n slot m place (codes "erased " ++ decimal gone) (codes "notlisted") (fits_x.0, fits_x.1) fits_y (sym (erased_is_laid n slot gone) ∙ e)).2)))
-erase_settled p q before here there pick w v (answers.Erased n slot gone) (answers.Listed other) h k fits_x fits_y e = absurd k
-erase_settled p q before here there pick w v (answers.Erased n slot gone) (answers.On m place that) h k fits_x fits_y e = absurd k
-erase_settled p q before here there pick w v (answers.Nothing n slot) (answers.Front m place) h k fits_x fits_y e = absurd k
-erase_settled p q before here there pick w v (answers.Nothing n slot) (answers.Held m place) h k fits_x fits_y e = absurd k
-erase_settled p q before here there pick w v (answers.Nothing n slot) (answers.Dropped m place) h k fits_x fits_y e = absurd k
-erase_settled p q before here there pick w v (answers.Nothing n slot) (answers.Pushed m place) h k fits_x fits_y e = absurd k
-erase_settled p q before here there pick w v (answers.Nothing n slot) (answers.Same m) h k fits_x fits_y e = absurd k
-erase_settled p q before here there pick w v (answers.Nothing n slot) answers.Full h k fits_x fits_y e = absurd k
-erase_settled p q before here there pick w v (answers.Nothing n slot) (answers.Refused other_file other_line other_cause) h k fits_x fits_y e = absurd k
-erase_settled p q before here there pick w v (answers.Nothing n slot) (answers.Erased m place lost) h k fits_x fits_y e = absurd (apart 110 101 (omega arith) (ap first_byte (version_before n slot m place (codes "nothing") (codes "erased " ++ decimal lost) fits_x (fits_y.0, fits_y.1) (e ∙ erased_is_laid m place lost)).2))
-erase_settled p q before here there pick w v (answers.Nothing n slot) (answers.Nothing m place) h k fits_x fits_y e = told_before_word answers.Nothing (codes "nothing") n slot m place fits_x fits_y e
-erase_settled p q before here there pick w v (answers.Nothing n slot) (answers.NotListed m place) h k fits_x fits_y e = absurd (apart 9 7 (omega arith) (sym (ap text_length (version_before n slot m place (codes "nothing") (codes "notlisted") fits_x fits_y (e)).2)))
-erase_settled p q before here there pick w v (answers.Nothing n slot) (answers.Listed other) h k fits_x fits_y e = absurd k
-erase_settled p q before here there pick w v (answers.Nothing n slot) (answers.On m place that) h k fits_x fits_y e = absurd k
-erase_settled p q before here there pick w v (answers.NotListed n slot) (answers.Front m place) h k fits_x fits_y e = absurd k
-erase_settled p q before here there pick w v (answers.NotListed n slot) (answers.Held m place) h k fits_x fits_y e = absurd k
-erase_settled p q before here there pick w v (answers.NotListed n slot) (answers.Dropped m place) h k fits_x fits_y e = absurd k
-erase_settled p q before here there pick w v (answers.NotListed n slot) (answers.Pushed m place) h k fits_x fits_y e = absurd k
-erase_settled p q before here there pick w v (answers.NotListed n slot) (answers.Same m) h k fits_x fits_y e = absurd k
-erase_settled p q before here there pick w v (answers.NotListed n slot) answers.Full h k fits_x fits_y e = absurd k
-erase_settled p q before here there pick w v (answers.NotListed n slot) (answers.Refused other_file other_line other_cause) h k fits_x fits_y e = absurd k
-erase_settled p q before here there pick w v (answers.NotListed n slot) (answers.Erased m place lost) h k fits_x fits_y e = absurd (apart 110 101 (omega arith) (ap first_byte (version_before n slot m place (codes "notlisted") (codes "erased " ++ decimal lost) fits_x (fits_y.0, fits_y.1) (e ∙ erased_is_laid m place lost)).2))
-erase_settled p q before here there pick w v (answers.NotListed n slot) (answers.Nothing m place) h k fits_x fits_y e = absurd (apart 9 7 (omega arith) (ap text_length (version_before n slot m place (codes "notlisted") (codes "nothing") fits_x fits_y (e)).2))
-erase_settled p q before here there pick w v (answers.NotListed n slot) (answers.NotListed m place) h k fits_x fits_y e = told_before_word answers.NotListed (codes "notlisted") n slot m place fits_x fits_y e
-erase_settled p q before here there pick w v (answers.NotListed n slot) (answers.Listed other) h k fits_x fits_y e = absurd k
-erase_settled p q before here there pick w v (answers.NotListed n slot) (answers.On m place that) h k fits_x fits_y e = absurd k
-erase_settled p q before here there pick w v (answers.Listed listing) y h k fits_x fits_y e = absurd h
-erase_settled p q before here there pick w v (answers.On n slot what) y h k fits_x fits_y e = absurd h
+  accepted_too : (src : ℕ) → IsAccepted p.sources src → IsAccepted q.sources src
+  accepted_too src h = subst (λ (sources : Sources). IsAccepted sources src) alike.sources h
 
--- a reply to `list` is settled by the list at its position
-pub list_settled : (p q : Round) (w v : ℕ) (x y : Answer) → AnswersList p w x → AnswersList q v y → w ≡ v
-    → map (row_of p.sources) (list_at p w).listed ≡ map (row_of q.sources) (list_at q v).listed → x ≡ y
-list_settled p q w v (answers.Front n slot) y h k met same = absurd h
-list_settled p q w v (answers.Held n slot) y h k met same = absurd h
-list_settled p q w v (answers.Dropped n slot) y h k met same = absurd h
-list_settled p q w v (answers.Pushed n slot) y h k met same = absurd h
-list_settled p q w v (answers.Same n) y h k met same = absurd h
-list_settled p q w v answers.Full y h k met same = absurd h
-list_settled p q w v (answers.Refused file line cause) y h k met same = absurd h
-list_settled p q w v (answers.Erased n slot gone) y h k met same = absurd h
-list_settled p q w v (answers.Nothing n slot) y h k met same = absurd h
-list_settled p q w v (answers.NotListed n slot) y h k met same = absurd h
-list_settled p q w v (answers.Listed listing) (answers.Front m place) h k met same = absurd k
-list_settled p q w v (answers.Listed listing) (answers.Held m place) h k met same = absurd k
-list_settled p q w v (answers.Listed listing) (answers.Dropped m place) h k met same = absurd k
-list_settled p q w v (answers.Listed listing) (answers.Pushed m place) h k met same = absurd k
-list_settled p q w v (answers.Listed listing) (answers.Same m) h k met same = absurd k
-list_settled p q w v (answers.Listed listing) answers.Full h k met same = absurd k
-list_settled p q w v (answers.Listed listing) (answers.Refused other_file other_line other_cause) h k met same = absurd k
-list_settled p q w v (answers.Listed listing) (answers.Erased m place lost) h k met same = absurd k
-list_settled p q w v (answers.Listed listing) (answers.Nothing m place) h k met same = absurd k
-list_settled p q w v (answers.Listed listing) (answers.NotListed m place) h k met same = absurd k
-list_settled p q w v (answers.Listed listing) (answers.Listed other) h k met same = ap answers.Listed (listing_same listing other (h.0 ∙ met ∙ sym k.0) (h.1 ∙ same ∙ sym k.1))
-list_settled p q w v (answers.Listed listing) (answers.On m place that) h k met same = absurd k
-list_settled p q w v (answers.On n slot what) y h k met same = absurd h
+  -- what is at the front of one is at the front of the other
+  here_too : (o : Edition) → WasFront q o → WasFront p o
+  here_too o (v, is) = (v, is ∙ sym (same_newest v v refl))
+
+  -- versions with one number are one
+  same_version : (e o : Edition) → WasFront p e → WasFront p o → e.n ≡ o.n → e ≡ o
+  same_version e o (w, first) (v, second) number =
+      first ∙ front_by_number p.slots p.journal w v alike.replay (ap number_of (sym first) ∙ number ∙ ap number_of second) ∙ sym second
+
+  number_low : (e : Edition) → WasFront p e → e.n < 2 ^ 64
+  number_low e (w, is) = omega (arith, alike.few, front_low p.slots w p.journal alike.replay, ap number_of is)
+
+  -- the text of a version settles it, and what follows
+  version_cut : (e o : Edition) (n slot m place : ℕ) (z t : List ℕ) → WasFront p e → WasFront q o → IsToldAs e n slot → IsToldAs o m place
+      → version_text n slot ++ z ≡ version_text m place ++ t → (e ≡ o) × (z ≡ t)
+  version_cut e o n slot m place z t first second h k text =
+      let also = here_too o second in
+      let laid : decimal n ++ 32 ∷ (decimal slot ++ z) ≡ decimal m ++ 32 ∷ (decimal place ++ t) = sym (append_assoc (decimal n) (32 ∷ decimal slot) z) ∙ text ∙ append_assoc (decimal m) (32 ∷ decimal place) t in
+      let cut = number_before 32 n m (decimal slot ++ z) (decimal place ++ t) (omega arith) (omega (arith, number_low e first, h.0)) (omega (arith, number_low o also, k.0)) laid in
+      let same = same_version e o first also (h.0 ∙ cut.0 ∙ sym k.0) in
+      let slots : place ≡ slot = sym k.1 ∙ ap slot_of (sym same) ∙ h.1 in
+      (same, append_cancel_left (decimal slot) z t (cut.1 ∙ ap (λ (it : ℕ). decimal it ++ t) slots))
+
+  -- the position settles the reply to `look`
+  pub look_settled : (w v : ℕ) (x y : Answer) → w ≡ v → AnswersLook p w x → AnswersLook q v y → x ≡ y
+  look_settled w v (answers.Front n slot) (answers.Front m place) at h k =
+      told_alike answers.Front (newest_at p w) (newest_at q v) n slot m place (same_newest w v at) h k
+  look_settled w v (answers.Front n slot) _ at h k = absurd k
+  look_settled w v _ y at h k = absurd h
+
+  -- to `hold`
+  pub hold_settled : (w v : ℕ) (x y : Answer) → w ≡ v → AnswersHold p w x → AnswersHold q v y → x ≡ y
+  hold_settled w v (answers.Held n slot) (answers.Held m place) at h k =
+      told_alike answers.Held (newest_at p w) (newest_at q v) n slot m place (same_newest w v at) h k
+  hold_settled w v (answers.Held n slot) _ at h k = absurd k
+  hold_settled w v _ y at h k = absurd h
+
+  -- to `list`
+  pub list_settled : (w v : ℕ) (x y : Answer) → w ≡ v → AnswersList p w x → AnswersList q v y → x ≡ y
+  list_settled w v (answers.Listed listing) (answers.Listed other) at h k =
+      let rows : map (row_of p.sources) (list_at p w).listed ≡ map (row_of q.sources) (list_at q v).listed = λ i. map (row_of (alike.sources i)) (state_after (alike.slots i) (take (at i) (alike.journal i))).listed in
+      ap answers.Listed (listing_same listing other (h.0 ∙ at ∙ sym k.0) (h.1 ∙ rows ∙ sym k.1))
+  list_settled w v (answers.Listed listing) _ at h k = absurd k
+  list_settled w v _ y at h k = absurd h
+
+  -- with its text, to `drop`
+  pub drop_settled : (before : List Answered) (here there : Answered) (name : List ℕ) (x y : Answer) (z t : List ℕ) → AnswersDrop p before here name x → AnswersDrop q before there name y
+      → answer_text x ++ z ≡ answer_text y ++ t → x ≡ y
+  drop_settled before here there name (answers.Dropped n slot) (answers.Dropped m place) z t h k text =
+      let cut = version_cut h.0 k.0 n slot m place z t (h.1.begun.reply.w, h.1.version) (k.1.begun.reply.w, k.1.version) h.2 k.2 (append_cancel_left (codes "dropped ") (version_text n slot ++ z) (version_text m place ++ t) text) in
+      told_alike answers.Dropped h.0 k.0 n slot m place cut.0 h.2 k.2
+  drop_settled before here there name (answers.Dropped n slot) _ z t h k text = absurd k
+  drop_settled before here there name _ y z t h k text = absurd h
+
+  -- to a lookup, where the version settles what is found
+  pub lookup_settled : (before : List Answered) (here there : Answered) (pick : Pick) (finds : Edition → Found → Type 0) (x y : Answer) (z t : List ℕ)
+      → ((e o : Edition) (f g : Found) → e.src ≡ o.src → finds e f → finds o g → f ≡ g)
+      → AnswersLookup p before here pick finds x → AnswersLookup q before there pick finds y → answer_text x ++ z ≡ answer_text y ++ t → x ≡ y
+  lookup_settled before here there pick finds (answers.On n slot what) (answers.On m place that) z t once h k text =
+      let laid = sym (three_pieces (version_text n slot) (codes " ") (found_text what) z) ∙ text ∙ three_pieces (version_text m place) (codes " ") (found_text that) t in
+      let cut = version_cut h.0 k.0 n slot m place (codes " " ++ (found_text what ++ z)) (codes " " ++ (found_text that ++ t)) (looks_at p before here pick h.0 h.1) (looks_at q before there pick k.0 k.1) h.2 k.2 laid in
+      on_same n slot m place what that (sym h.2.0 ∙ ap number_of cut.0 ∙ k.2.0) (sym h.2.1 ∙ ap slot_of cut.0 ∙ k.2.1)
+      (once h.0 k.0 what that (ap (λ (it : Edition). it.src) cut.0) h.3 k.3)
+  lookup_settled before here there pick finds (answers.On n slot what) _ z t once h k text = absurd k
+  lookup_settled before here there pick finds _ y z t once h k text = absurd h
+
+  -- an erasure's text settles its version, and what follows
+  erasure_cut : (before : List Answered) (here there : Answered) (pick : Pick) (w v n slot m place : ℕ) (z t : List ℕ) → ErasesBehindTold p before here pick w n slot → ErasesBehindTold q before there pick v m place
+      → version_text n slot ++ z ≡ version_text m place ++ t → (n ≡ m) × (slot ≡ place) × (z ≡ t)
+  erasure_cut before here there pick w v n slot m place z t h k text =
+      let cut = version_cut h.0 k.0 n slot m place z t (erases_at p before here pick w h.0 h.1) (erases_at q before there pick v k.0 k.1) h.2 k.2 text in
+      (sym h.2.0 ∙ ap number_of cut.0 ∙ k.2.0, sym h.2.1 ∙ ap slot_of cut.0 ∙ k.2.1, cut.1)
+
+  -- what follows the version of an erasure
+  abbrev erased_tail : ℕ → List ℕ → List ℕ
+  erased_tail gone z = codes " erased" ++ (after_space gone ++ z)
+
+  erased_is_laid : (n slot gone : ℕ) (z : List ℕ) → version_text n slot ++ codes " erased" ++ after_space gone ++ z ≡ version_text n slot ++ erased_tail gone z
+  erased_is_laid n slot gone z = three_pieces (version_text n slot) (codes " erased") (after_space gone) z
+
+  nothing_is_laid : (n slot : ℕ) (z : List ℕ) → version_text n slot ++ codes " nothing" ++ z ≡ version_text n slot ++ (codes " nothing" ++ z)
+  nothing_is_laid n slot z = append_assoc (version_text n slot) (codes " nothing") z
+
+  unlisted_is_laid : (n slot : ℕ) (z : List ℕ) → version_text n slot ++ codes " notlisted" ++ z ≡ version_text n slot ++ (codes " notlisted" ++ z)
+  unlisted_is_laid n slot z = append_assoc (version_text n slot) (codes " notlisted") z
+
+  -- to `erase`
+  pub erase_settled : (before : List Answered) (here there : Answered) (pick : Pick) (w v : ℕ) (x y : Answer) (z t : List ℕ) → w ≡ v → AnswersErase p before here pick w x → AnswersErase q before there pick v y
+      → answer_text x ++ z ≡ answer_text y ++ t → x ≡ y
+  erase_settled before here there pick (suc w) (suc v) (answers.Erased n slot gone) (answers.Erased m place lost) z t at h k text =
+      let cut = erasure_cut before here there pick w v n slot m place (erased_tail gone z) (erased_tail lost t) h.0 k.0 (sym (erased_is_laid n slot gone z) ∙ text ∙ erased_is_laid m place lost t) in
+      erased_same n slot gone m place lost cut.0 cut.1 (gone_same n gone m lost (same_change w v (Erase n gone) (Erase m lost) (suc_inj at) h.2 k.2))
+  erase_settled before here there pick zero v (answers.Erased n slot gone) y z t at h k text = absurd h
+  erase_settled before here there pick w zero x (answers.Erased m place lost) z t at h k text = absurd k
+  erase_settled before here there pick (suc w) v (answers.Erased n slot gone) (answers.Nothing m place) z t at h k text =
+      let cut = erasure_cut before here there pick w v n slot m place (erased_tail gone z) (codes " nothing" ++ t) h.0 k.0 (sym (erased_is_laid n slot gone z) ∙ text ∙ nothing_is_laid m place t) in
+      absurd (apart 110 101 (omega arith) (sym (ap (byte_at 1) cut.2)))
+  erase_settled before here there pick (suc w) v (answers.Erased n slot gone) (answers.NotListed m place) z t at h k text =
+      let cut = erasure_cut before here there pick w v n slot m place (erased_tail gone z) (codes " notlisted" ++ t) h.0 k.0 (sym (erased_is_laid n slot gone z) ∙ text ∙ unlisted_is_laid m place t) in
+      absurd (apart 110 101 (omega arith) (sym (ap (byte_at 1) cut.2)))
+  erase_settled before here there pick (suc w) v (answers.Erased n slot gone) _ z t at h k text = absurd k
+  erase_settled before here there pick w (suc v) (answers.Nothing n slot) (answers.Erased m place lost) z t at h k text =
+      let cut = erasure_cut before here there pick w v n slot m place (codes " nothing" ++ z) (erased_tail lost t) h.0 k.0 (sym (nothing_is_laid n slot z) ∙ text ∙ erased_is_laid m place lost t) in
+      absurd (apart 110 101 (omega arith) (ap (byte_at 1) cut.2))
+  erase_settled before here there pick w v (answers.Nothing n slot) (answers.Nothing m place) z t at h k text =
+      let cut = erasure_cut before here there pick w v n slot m place (codes " nothing" ++ z) (codes " nothing" ++ t) h.0 k.0 (sym (nothing_is_laid n slot z) ∙ text ∙ nothing_is_laid m place t) in
+      made_same answers.Nothing n slot m place cut.0 cut.1
+  erase_settled before here there pick w v (answers.Nothing n slot) (answers.NotListed m place) z t at h k text =
+      let cut = erasure_cut before here there pick w v n slot m place (codes " nothing" ++ z) (codes " notlisted" ++ t) h.0 k.0 (sym (nothing_is_laid n slot z) ∙ text ∙ unlisted_is_laid m place t) in
+      absurd (apart 108 104 (omega arith) (sym (ap (byte_at 4) cut.2)))
+  erase_settled before here there pick w v (answers.Nothing n slot) _ z t at h k text = absurd k
+  erase_settled before here there pick w (suc v) (answers.NotListed n slot) (answers.Erased m place lost) z t at h k text =
+      let cut = erasure_cut before here there pick w v n slot m place (codes " notlisted" ++ z) (erased_tail lost t) h.0 k.0 (sym (unlisted_is_laid n slot z) ∙ text ∙ erased_is_laid m place lost t) in
+      absurd (apart 110 101 (omega arith) (ap (byte_at 1) cut.2))
+  erase_settled before here there pick w v (answers.NotListed n slot) (answers.Nothing m place) z t at h k text =
+      let cut = erasure_cut before here there pick w v n slot m place (codes " notlisted" ++ z) (codes " nothing" ++ t) h.0 k.0 (sym (unlisted_is_laid n slot z) ∙ text ∙ nothing_is_laid m place t) in
+      absurd (apart 108 104 (omega arith) (ap (byte_at 4) cut.2))
+  erase_settled before here there pick w v (answers.NotListed n slot) (answers.NotListed m place) z t at h k text =
+      let cut = erasure_cut before here there pick w v n slot m place (codes " notlisted" ++ z) (codes " notlisted" ++ t) h.0 k.0 (sym (unlisted_is_laid n slot z) ∙ text ∙ unlisted_is_laid m place t) in
+      made_same answers.NotListed n slot m place cut.0 cut.1
+  erase_settled before here there pick w v (answers.NotListed n slot) _ z t at h k text = absurd k
+  erase_settled before here there pick w v _ y z t at h k text = absurd h
+
+  -- to `reload`, of which only the first letter is needed
+  pub reload_settled : (src w v : ℕ) (x y : Answer) (z t : List ℕ) → w ≡ v → AnswersReload p src w x → AnswersReload q src v y
+      → answer_text x ++ z ≡ answer_text y ++ t → x ≡ y
+  reload_settled src w v (answers.Refused file line cause) (answers.Refused other_file other_line other_cause) z t at h k text =
+      let a : Fault = record { file = file; line = line; cause = cause } in
+      let b : Fault = record { file = other_file; line = other_line; cause = other_cause } in
+      refused_same a b (refused_once q.sources src a b (same_refusal src a h) k)
+  reload_settled src w v (answers.Refused file line cause) (answers.Same m) z t at h k text = absurd (k.0 _ (same_refusal src _ h))
+  reload_settled src w (suc v) (answers.Refused file line cause) (answers.Pushed m place) z t at h k text = absurd (k.0 _ (same_refusal src _ h))
+  reload_settled src w zero x (answers.Pushed m place) z t at h k text = absurd k
+  reload_settled src w v (answers.Refused file line cause) answers.Full z t at h k text = absurd (k.0 _ (same_refusal src _ h))
+  reload_settled src w v (answers.Refused file line cause) _ z t at h k text = absurd k
+  reload_settled src w v (answers.Same n) (answers.Refused other_file other_line other_cause) z t at h k text = absurd (accepted_too src h.0 _ k)
+  reload_settled src w v (answers.Same n) (answers.Same m) z t at h k text =
+      ap answers.Same (sym h.2 ∙ ap number_of (same_newest w v at) ∙ k.2)
+  reload_settled src w (suc v) (answers.Same n) (answers.Pushed m place) z t at h k text = absurd (apart 115 112 (omega arith) (ap (byte_at 0) text))
+  reload_settled src w v (answers.Same n) answers.Full z t at h k text = absurd (k.1 (same_name src w v at h.1))
+  reload_settled src w v (answers.Same n) _ z t at h k text = absurd k
+  reload_settled src zero v (answers.Pushed n slot) y z t at h k text = absurd h
+  reload_settled src (suc w) v (answers.Pushed n slot) (answers.Refused other_file other_line other_cause) z t at h k text = absurd (accepted_too src h.0 _ k)
+  reload_settled src (suc w) v (answers.Pushed n slot) (answers.Same m) z t at h k text = absurd (apart 115 112 (omega arith) (sym (ap (byte_at 0) text)))
+  reload_settled src (suc w) (suc v) (answers.Pushed n slot) (answers.Pushed m place) z t at h k text =
+      pushed_same n src slot m place (same_change w v (Push n src slot) (Push m src place) (suc_inj at) h.2 k.2)
+  reload_settled src (suc w) v (answers.Pushed n slot) answers.Full z t at h k text = absurd (apart 112 102 (omega arith) (ap (byte_at 0) text))
+  reload_settled src (suc w) v (answers.Pushed n slot) _ z t at h k text = absurd k
+  reload_settled src w v answers.Full (answers.Refused other_file other_line other_cause) z t at h k text = absurd (accepted_too src h.0 _ k)
+  reload_settled src w v answers.Full (answers.Same m) z t at h k text = absurd (apart 115 102 (omega arith) (sym (ap (byte_at 0) text)))
+  reload_settled src w (suc v) answers.Full (answers.Pushed m place) z t at h k text = absurd (apart 112 102 (omega arith) (sym (ap (byte_at 0) text)))
+  reload_settled src w v answers.Full answers.Full z t at h k text = refl
+  reload_settled src w v answers.Full _ z t at h k text = absurd k
+  reload_settled src w v _ y z t at h k text = absurd h

@@ -18,7 +18,7 @@ use Rattle.pin_book.proofs.Journals.{replays_take}
 abbrev first_edition : Edition
 first_edition = record { n = 1; src = 0; slot = 0 }
 
-abbrev number_of : Edition → ℕ
+abbrev pub number_of : Edition → ℕ
 number_of edition = edition.n
 
 -- the front is listed
@@ -63,7 +63,7 @@ told_by_number slots journal e o some h (inr one) (inr two) number =
     same_Some e o (sym first.1 ∙ ap (slice_get (pushes journal)) place ∙ second.1)
 
 -- a list without slots takes no write
-nothing_allowed : (change : Change) → allowed (opening 0) change ≡ true → ⊥
+pub nothing_allowed : (change : Change) → allowed (opening 0) change ≡ true → ⊥
 nothing_allowed (Push n src slot) h = omega (arith, (push_asks (opening 0) n src slot h).inside)
 nothing_allowed (Erase after gone) h =
     let asks = erase_asks (opening 0) after gone h in
@@ -71,7 +71,7 @@ nothing_allowed (Erase after gone) h =
     let none : gone ≡ 0 = asks.next ∙ ap (λ n. greatest_below n (first_edition ∷ [])) (sym is) in
     omega (arith, none, asks.some)
 
-none_taken : (w : ℕ) → take {A = Write} w [] ≡ []
+pub none_taken : (w : ℕ) → take {A = Write} w [] ≡ []
 none_taken zero = refl
 none_taken (suc w) = refl
 

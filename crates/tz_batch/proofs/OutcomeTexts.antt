@@ -7,7 +7,7 @@ use Rattle.std.specs.Prelude.{codes, IsTrue}
 use Rattle.std.proofs.lemmas.List.{append_cancel_left}
 use Rattle.std.proofs.lemmas.List.Elements.{All-head, All-tail}
 use Rattle.tz_batch.specs.OutcomeText.{write_lines, answer_text, reply_line, count_line, outcome_text}
-use Rattle.tz_batch.specs.Fitting.{FitsReply, FitsOutcome, is_one_line, ReplyTold, reply_told}
+use Rattle.tz_batch.specs.Fitting.{FitsWord, FitsWrite, FitsReply, FitsOutcome, is_one_line, ReplyTold, reply_told}
 use Rattle.tz_batch.specs.declared.outcome.Outcome.{Outcome}
 use Rattle.tz_batch.specs.declared.reply.Reply.{Reply}
 use Rattle.tz_batch.proofs.NumberCuts.{first_same, rest_same, number_before}
@@ -22,7 +22,7 @@ count_settled word m n x y fits_m fits_n e =
     number_before 10 m n x y (omega arith) fits_m fits_n (append_cancel_left word (decimal m ++ 10 ∷ x) (decimal n ++ 10 ∷ y) laid)
 
 -- the replies and the last line
-abbrev replies_text : List Reply → List ℕ
+abbrev pub replies_text : List Reply → List ℕ
 replies_text replies = flat_map reply_line replies ++ codes "end\n"
 
 -- the whole text, from the left
@@ -36,8 +36,17 @@ unfolding outcome_text
 outcome_is_laid outcome =
     four_pieces (count_line (codes "journal ") (length outcome.journal)) (write_lines 1 outcome.journal) (count_line (codes "replies ") (length outcome.replies)) (flat_map reply_line outcome.replies) (codes "end\n")
 
+-- the numbers that are printed before the replies fit
+pub record FitsFront (outcome : Outcome) : Type 0 where
+  pub few_writes : FitsWord (length outcome.journal)
+  pub few_replies : FitsWord (length outcome.replies)
+  pub writes : All FitsWrite outcome.journal
+
+front_of_outcome : (outcome : Outcome) → FitsOutcome outcome → FitsFront outcome
+front_of_outcome outcome fits = record { few_writes = fits.few_writes; few_replies = fits.few_replies; writes = fits.writes }
+
 -- an outcome's text settles the journal, how many replies there are, and their text
-parts_settled : (a b : Outcome) → FitsOutcome a → FitsOutcome b → outcome_text a ≡ outcome_text b
+pub parts_settled : (a b : Outcome) → FitsFront a → FitsFront b → outcome_text a ≡ outcome_text b
     → (a.journal ≡ b.journal) × (length a.replies ≡ length b.replies) × (replies_text a.replies ≡ replies_text b.replies)
 parts_settled a b fits_a fits_b e =
     let laid : outcome_laid a ≡ outcome_laid b = sym (outcome_is_laid a) ∙ e ∙ outcome_is_laid b in
@@ -47,7 +56,7 @@ parts_settled a b fits_a fits_b e =
     (writes.0, replies.0, replies.1)
 
 pub journal_settled : (a b : Outcome) → FitsOutcome a → FitsOutcome b → outcome_text a ≡ outcome_text b → a.journal ≡ b.journal
-journal_settled a b fits_a fits_b e = (parts_settled a b fits_a fits_b e).0
+journal_settled a b fits_a fits_b e = (parts_settled a b (front_of_outcome a fits_a) (front_of_outcome b fits_b) e).0
 
 both_longer : (g : ℕ) (s t x y : List ℕ) → (s ≡ t) × (x ≡ y) → (g ∷ s ≡ g ∷ t) × (x ≡ y)
 both_longer g s t x y h = (ap (λ zs. g ∷ zs) h.0, h.1)
@@ -65,11 +74,11 @@ line_ends (f ∷ s) (g ∷ t) x y one_s one_t e =
     rw same (both_longer g s t x y later)
 
 -- a reply's line with what follows, from the left
-abbrev reply_laid : Reply → List ℕ → List ℕ
+abbrev pub reply_laid : Reply → List ℕ → List ℕ
 reply_laid reply z =
     decimal reply.line ++ 32 ∷ 64 ∷ (decimal reply.w ++ 32 ∷ (answer_text reply.answer ++ 10 ∷ z))
 
-reply_is_laid : (reply : Reply) (z : List ℕ) → reply_line reply ++ z ≡ reply_laid reply z
+pub reply_is_laid : (reply : Reply) (z : List ℕ) → reply_line reply ++ z ≡ reply_laid reply z
 unfolding reply_line
 reply_is_laid reply z =
     six_pieces (decimal reply.line) (codes " @") (decimal reply.w) (codes " ") (answer_text reply.answer) (codes "\n") z
@@ -113,5 +122,5 @@ replies_settled (a ∷ p) (b ∷ q) x y long fits_p fits_q e =
 pub told_settled : (a b : Outcome) → FitsOutcome a → FitsOutcome b
     → outcome_text a ≡ outcome_text b → map reply_told a.replies ≡ map reply_told b.replies
 told_settled a b fits_a fits_b e =
-    let parts = parts_settled a b fits_a fits_b e in
+    let parts = parts_settled a b (front_of_outcome a fits_a) (front_of_outcome b fits_b) e in
     replies_settled a.replies b.replies (codes "end\n") (codes "end\n") parts.1 fits_a.replies fits_b.replies parts.2
