@@ -1,5 +1,5 @@
 -- What the text of an answer settles, where the operation, its position and the journal are known.
-use Rattle.std.proofs.Common.{◌≡◌, ℕ, zero, suc, ◌+◌, ◌≤◌, ◌<◌, ◌^◌, List, [], ◌∷◌, ◌++◌, length, map, get_or, take, true, option_map, slice_get, refl, sym, ap, subst, ◌∙◌, arith, append_assoc}
+use Rattle.std.proofs.Common.{◌≡◌, ℕ, zero, suc, ◌≤◌, ◌<◌, ◌^◌, List, ◌∷◌, ◌++◌, length, map, get_or, take, true, option_map, slice_get, refl, sym, ap, subst, ◌∙◌, arith, append_assoc}
 use Rattle.std.specs.Fmt.{decimal}
 use Rattle.std.specs.Prelude.{codes}
 use Rattle.std.proofs.Math.Nat.{suc_inj}
@@ -16,14 +16,15 @@ use Rattle.pin_book.specs.declared.write.Write.{Write}
 use Rattle.pin_book.specs.Replay.{Edition, front_of, state_after, replays}
 use Rattle.tz_types.specs.declared.fault.Fault.{Fault}
 use Rattle.tz_version.specs.declared.sources.Sources.{Sources}
-use Rattle.tz_batch.specs.OutcomeText.{after_space, version_text, found_text, answer_text}
+use Rattle.tz_lookup.specs.Found.{after_space}
+use Rattle.tz_lookup.specs.declared.found.Found.{Found}
+use Rattle.tz_batch.specs.OutcomeText.{version_text, finding_text, answer_text}
 use Rattle.tz_batch.specs.Batch.{Answered, name_of_source, row_of}
 use Rattle.tz_batch.specs.Round.{Round, list_at, newest_at}
 use Rattle.tz_batch.specs.Held.{LooksInto}
 use Rattle.tz_batch.specs.Answering.{IsToldAs, IsChangeAfter, IsRefusedWith, IsAccepted, HasNameOf, ErasesBehind, ErasesBehindTold, AnswersLook, AnswersHold, AnswersDrop, AnswersReload, AnswersErase, AnswersList, AnswersLookup}
 use Rattle.tz_batch.specs.declared.answer.Answer.{Answer}
 use Rattle.tz_batch.specs.declared.answer.Answer.TheVariants as answers
-use Rattle.tz_batch.specs.declared.found.Found.{Found}
 use Rattle.tz_batch.specs.declared.listing.Listing.{Listing}
 use Rattle.tz_batch.proofs.Fronts.{number_of, front_by_number}
 use Rattle.tz_batch.proofs.JournalBounds.{front_low}
@@ -167,8 +168,8 @@ module _ (p q : Round) (alike : AreAlike p q) where
       → ((e o : Edition) (f g : Found) → e.src ≡ o.src → finds e f → finds o g → f ≡ g)
       → AnswersLookup p before here pick finds x → AnswersLookup q before there pick finds y → answer_text x ++ z ≡ answer_text y ++ t → x ≡ y
   lookup_settled before here there pick finds (answers.On n slot what) (answers.On m place that) z t once h k text =
-      let laid = sym (three_pieces (version_text n slot) (codes " ") (found_text what) z) ∙ text ∙ three_pieces (version_text m place) (codes " ") (found_text that) t in
-      let cut = version_cut h.0 k.0 n slot m place (codes " " ++ (found_text what ++ z)) (codes " " ++ (found_text that ++ t)) (looks_at p before here pick h.0 h.1) (looks_at q before there pick k.0 k.1) h.2 k.2 laid in
+      let laid = sym (three_pieces (version_text n slot) (codes " ") (finding_text what) z) ∙ text ∙ three_pieces (version_text m place) (codes " ") (finding_text that) t in
+      let cut = version_cut h.0 k.0 n slot m place (codes " " ++ (finding_text what ++ z)) (codes " " ++ (finding_text that ++ t)) (looks_at p before here pick h.0 h.1) (looks_at q before there pick k.0 k.1) h.2 k.2 laid in
       on_same n slot m place what that (sym h.2.0 ∙ ap number_of cut.0 ∙ k.2.0) (sym h.2.1 ∙ ap slot_of cut.0 ∙ k.2.1)
       (once h.0 k.0 what that (ap (λ (it : Edition). it.src) cut.0) h.3 k.3)
   lookup_settled before here there pick finds (answers.On n slot what) _ z t once h k text = absurd k

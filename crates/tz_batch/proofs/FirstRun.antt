@@ -6,7 +6,7 @@ use Rattle.tz_script.specs.declared.operation.Operation.{Operation}
 use Rattle.tz_script.specs.declared.script.Script.{Script}
 use Rattle.tz_version.specs.declared.sources.Sources.{Sources}
 use Rattle.tz_batch.specs.Batch.{Batch, Answered, each_answered, answered, start_of, is_write_before}
-use Rattle.tz_batch.specs.Round.{Round, round_of, list_at}
+use Rattle.tz_batch.specs.Round.{Round, round_of}
 use Rattle.tz_batch.specs.Answering.{IsRightReply}
 use Rattle.tz_batch.specs.Run.{EachInTurn, InSlot, PlacedChange, change_told_in, changes_told, HasPosition, SlotsKeep, PassesOver, IsRun}
 use Rattle.tz_batch.specs.FirstLook.{lone_look, first_front, first_outcome}

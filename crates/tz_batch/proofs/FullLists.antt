@@ -1,12 +1,11 @@
 -- How many slots a full list has.
-use Rattle.std.proofs.Common.{◌≡◌, ℕ, zero, suc, ◌+◌, ◌-◌, ◌≤◌, ◌<◌, ◌==◌, ◌⊎◌, Bool, true, false, not, List, [], ◌∷◌, ◌++◌, length, map, get_or, fold, take, drop, Contains, IsTrue, refl, sym, ap, subst, ◌∙◌, inl, inr, ⊎_elim, length-append, arith}
-use Rattle.std.specs.List.{filter, list_any, flat_map}
-use Rattle.std.proofs.lemmas.Bool.{and_parts, or_cases, eqb-true, ne_eqb, cond_both, both_ways}
+use Rattle.std.proofs.Common.{◌≡◌, ℕ, zero, suc, ◌+◌, ◌-◌, ◌≤◌, ◌<◌, ◌==◌, ◌⊎◌, true, false, not, List, [], ◌∷◌, ◌++◌, length, map, fold, take, drop, Contains, IsTrue, refl, sym, ap, subst, ◌∙◌, inl, inr, ⊎_elim, length-append, arith}
+use Rattle.std.specs.List.{filter}
+use Rattle.std.proofs.lemmas.Bool.{or_cases, eqb-true, cond_both}
 use Rattle.std.proofs.lemmas.List.{length-map}
 use Rattle.std.proofs.Math.Seq.{take-add}
-use Rattle.std.proofs.lemmas.List.Elements.{All-contains, All-contains_itself, All-filter, Contains-append_left, Contains-append_right, Contains-append_cases}
+use Rattle.std.proofs.lemmas.List.Elements.{All-contains, All-contains_itself, All-filter, Contains-append_left, Contains-append_right}
 use Rattle.std.proofs.lemmas.List.Sums.{fold-append}
-use Rattle.std.proofs.lemmas.Grind.{flat_map-append}
 use Rattle.tz_script.specs.declared.operation.Operation.{Operation}
 use Rattle.pin_book.specs.declared.write.Change.{Change}
 use Rattle.pin_book.specs.declared.write.Change.TheVariants.{Push, Erase}

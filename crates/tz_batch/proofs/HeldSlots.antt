@@ -1,5 +1,5 @@
 -- The slot of an open hold was the front's in its round.
-use Rattle.std.proofs.Common.{◌≡◌, ℕ, zero, suc, ◌+◌, ◌≤◌, ◌<◌, ◌==◌, ◌⊎◌, Bool, true, false, not, List, [], ◌∷◌, ◌++◌, length, get_or, fold, Contains, refl, sym, ap, subst, ◌∙◌, inl, inr, ⊎_elim, append_assoc, arith}
+use Rattle.std.proofs.Common.{◌≡◌, ℕ, zero, suc, ◌+◌, ◌≤◌, ◌<◌, ◌==◌, ◌⊎◌, true, not, List, [], ◌∷◌, ◌++◌, length, get_or, fold, Contains, refl, sym, ap, subst, ◌∙◌, inl, inr, ⊎_elim, append_assoc, arith}
 use Rattle.std.specs.List.{filter}
 use Rattle.std.proofs.lemmas.Bool.{and_parts, eqb-true, ltb-true, cond_both}
 use Rattle.std.proofs.lemmas.List.Elements.{All-contains, All-contains_itself, All-filter, Contains-push_cases}
@@ -12,12 +12,12 @@ use Rattle.tz_script.specs.declared.operation.Op.TheVariants as ops
 use Rattle.tz_script.specs.declared.operation.Operation.{Operation}
 use Rattle.tz_script.specs.declared.script.Script.{Script}
 use Rattle.tz_version.specs.declared.sources.Sources.{Sources}
-use Rattle.tz_batch.specs.Batch.{Batch, Answered, each_answered, answered, start_of}
-use Rattle.tz_batch.specs.Held.{holds_in, open_holds}
+use Rattle.tz_batch.specs.Batch.{Answered, each_answered, answered, start_of}
+use Rattle.tz_batch.specs.Held.{holds_in}
 use Rattle.tz_batch.specs.Laws.{batch_of, WasFrontInRound}
 use Rattle.tz_batch.specs.PassedOver.{IsHeldSlot}
 use Rattle.tz_batch.specs.Round.{round_of}
-use Rattle.tz_batch.specs.Run.{EachInTurn, IsRun, HasPosition}
+use Rattle.tz_batch.specs.Run.{IsRun}
 use Rattle.tz_batch.specs.declared.outcome.Outcome.{Outcome}
 use Rattle.tz_batch.specs.declared.reply.Reply.{Reply}
 use Rattle.tz_batch.proofs.LanePositions.{from_start}

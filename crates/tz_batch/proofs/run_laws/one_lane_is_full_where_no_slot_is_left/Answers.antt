@@ -1,4 +1,4 @@
-use Rattle.std.proofs.Common.{◌≡◌, ℕ, ◌-◌, ⊎_elim, inl, inr, subst, IsTrue}
+use Rattle.std.proofs.Common.{◌-◌, ⊎_elim, inl, inr, subst, IsTrue}
 use Rattle.pin_book.specs.Replay.{is_slot_listed}
 use Rattle.tz_batch.specs.Laws.{batch_of}
 use Rattle.tz_batch.specs.PassedOver.{IsHeldSlot, MayBeHeld}

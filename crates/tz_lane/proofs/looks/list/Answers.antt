@@ -16,6 +16,8 @@ returns-clause-answer g c begun =
     let home = release_home table_plan.first in
     let seen : (reader_view c.list-listing.new.self).seen ≡ listed.journal = ap (λ v. v.seen) listed.view in
     let all : take c.list-listing.result.w (reader_view c.list-listing.new.self).seen ≡ listed.journal =
-    ap (take c.list-listing.result.w) seen ∙ ap (λ w. take w listed.journal) listed.w ∙ take-length listed.journal in
-    (refl, c.in_ok-rows.ensures ∙ (c.as_slice.ensures.value ∙ (listed.rows ∙ (book_rows home table_plan.slots listed.journal (omega (arith, c.args.reader.now.table.now.sizes.some_slots)) listed.found.replay
-    ∙ ap (λ (writes : List Write). map (row_of home) (state_after table_plan.slots writes).listed) (sym all)))))
+    ap (take c.list-listing.result.w) seen ∙ ap (λ w. take w listed.journal) listed.w ∙ take-length listed.journal in (
+      refl,
+      c.in_ok-rows.ensures ∙ (c.as_slice.ensures.value ∙ (listed.rows ∙ (book_rows home table_plan.slots listed.journal (omega (arith, c.args.reader.now.table.now.sizes.some_slots)) listed.found.replay
+          ∙ ap (λ (writes : List Write). map (row_of home) (state_after table_plan.slots writes).listed) (sym all)))),
+    )
