@@ -1,11 +1,10 @@
 -- How great the numbers of a run's journal are.
-use Rattle.std.proofs.Common.{◌≡◌, ℕ, zero, suc, ◌+◌, ◌*◌, ◌≤◌, ◌<◌, ◌^◌, ◌==◌, nat_lt, nat_le, not, Bool, true, false, cond, ◌⊎◌, inl, inr, ⊎_elim, length-append, List, [], ◌∷◌, ◌++◌, length, get_or, take, filter, filter_map, count_by, Contains, Option, Some, None, IsTrue, refl, sym, ap, subst, ◌∙◌, arith}
+use Rattle.std.proofs.Common.{◌≡◌, ℕ, zero, suc, ◌+◌, ◌*◌, ◌≤◌, ◌<◌, ◌^◌, ◌==◌, nat_lt, nat_le, not, Bool, true, cond, ◌⊎◌, inl, inr, ⊎_elim, length-append, List, [], ◌∷◌, ◌++◌, length, get_or, take, filter_map, Contains, Option, Some, None, refl, sym, ap, subst, arith}
 use Rattle.std.specs.List.{All, list_all, cons_option}
 use Rattle.std.proofs.lemmas.Bool.{cond_both, and_parts, eqb-true, eq-eqb, ltb-true, leb-true, not-true, leb-false}
 use Rattle.std.proofs.lemmas.List.{length-map, length-take}
 use Rattle.std.proofs.lemmas.List.Elements.{All-nil, All-cons, All-head, All-tail, All-contains, All-contains_itself}
 use Rattle.std.proofs.lemmas.List.Sums.{count_by-le-length}
-use Rattle.tz_script.specs.Inside.{are_lanes}
 use Rattle.tz_script.specs.Keeping.{is_there, KeepsSources}
 use Rattle.tz_script.specs.declared.limit.TheConstants.{MOST_LANES, MOST_OPERATIONS}
 use Rattle.tz_script.specs.declared.operation.Op.{Op}
@@ -13,7 +12,6 @@ use Rattle.tz_script.specs.declared.operation.Op.TheVariants as ops
 use Rattle.tz_script.specs.declared.operation.Operation.{Operation}
 use Rattle.tz_script.specs.declared.script.Script.{Script}
 use Rattle.tz_version.specs.declared.sources.Sources.{Sources}
-use Rattle.tz_version.specs.declared.sources.TheConstants.{MOST_SOURCES}
 use Rattle.pin_book.specs.declared.write.Change.{Change}
 use Rattle.pin_book.specs.declared.write.Change.TheVariants.{Push, Erase}
 use Rattle.pin_book.specs.declared.write.Write.{Write}
@@ -24,9 +22,9 @@ use Rattle.pin_book.proofs.ListLemmas.{listed_below}
 use Rattle.pin_book.proofs.ReplayLemmas.{Orderly, push_asks, erase_asks, gone_less, change_orderly, opening_orderly, replay_orderly}
 use Rattle.pin_book.proofs.Journals.{replays_take}
 use Rattle.tz_batch.specs.Fitting.{FitsWord, FitsChange, FitsWrite}
-use Rattle.tz_batch.specs.Batch.{Batch, Answered, each_answered, answered, start_of, is_write_before}
+use Rattle.tz_batch.specs.Batch.{Answered, each_answered, answered, is_write_before}
 use Rattle.tz_batch.specs.Laws.{batch_of}
-use Rattle.tz_batch.specs.Run.{PlacedChange, change_told, change_told_in, changes_told, changes_by, IsRun}
+use Rattle.tz_batch.specs.Run.{PlacedChange, change_told, change_told_in, changes_by, IsRun}
 use Rattle.tz_batch.specs.declared.answer.Answer.{Answer}
 use Rattle.tz_batch.specs.declared.answer.Answer.TheVariants as answers
 use Rattle.tz_batch.specs.declared.outcome.Outcome.{Outcome}

@@ -1,6 +1,5 @@
 -- A text is refused with one fault, and what is refused isn't accepted.
-use Rattle.std.proofs.Common.{◌≡◌, ℕ, List, ◌⊎◌, inl, inr, refl, sym, ap, ◌∙◌, subst}
-use Rattle.std.specs.Prelude.{Some, slice_get}
+use Rattle.std.proofs.Common.{◌≡◌, ℕ, List, inl, inr, sym, ap, ◌∙◌, subst}
 use Rattle.std.proofs.lemmas.Option.{same_Some}
 use Rattle.tz_types.specs.declared.fault.Fault.{Fault}
 use Rattle.tz_types.specs.declared.fault.LineFault.{LineFault}

@@ -1,11 +1,10 @@
 -- What the text of a run settles.
-use Rattle.std.proofs.Common.{◌≡◌, ℕ, ◌<◌, ◌≤◌, ◌^◌, List, [], ◌∷◌, ◌++◌, length, map, refl, sym, ap, ◌∙◌, append_assoc, arith}
+use Rattle.std.proofs.Common.{◌≡◌, ℕ, ◌<◌, ◌^◌, List, [], ◌∷◌, ◌++◌, length, map, refl, sym, ap, ◌∙◌, append_assoc, arith}
 use Rattle.std.specs.List.{flat_map}
 use Rattle.std.specs.Fmt.{decimal}
 use Rattle.std.specs.Prelude.{codes}
 use Rattle.std.proofs.lemmas.List.{append_cancel_left}
 use Rattle.tz_script.specs.Keeping.{KeepsSources}
-use Rattle.tz_script.specs.declared.limit.TheConstants.{MOST_OPERATIONS}
 use Rattle.tz_script.specs.declared.operation.Op.{Op}
 use Rattle.tz_script.specs.declared.operation.Op.TheVariants as ops
 use Rattle.tz_script.specs.declared.operation.Operation.{Operation}
@@ -18,7 +17,7 @@ use Rattle.tz_batch.specs.OutcomeText.{answer_text, reply_line, outcome_text}
 use Rattle.tz_batch.specs.Fitting.{FitsWord}
 use Rattle.tz_batch.specs.Batch.{Batch, Answered, each_answered, answered}
 use Rattle.tz_batch.specs.Laws.{batch_of}
-use Rattle.tz_batch.specs.Round.{Round, round_of}
+use Rattle.tz_batch.specs.Round.{round_of}
 use Rattle.tz_expand.specs.declared.compiled_zone.CompiledZone.{CompiledZone}
 use Rattle.tz_batch.specs.Finding.{FindsInfo, FindsLocal, FindsSys, FindsScan, FindsInZone, FindsByClock}
 use Rattle.tz_batch.specs.Answering.{IsRightReply, AnswersInZone}
