@@ -15,7 +15,7 @@ use Rattle.pin_book.proofs.ReplayLemmas.{push_asks, erase_asks}
 use Rattle.pin_book.proofs.LawLemmas.{some_listed, listed_told, numbers_in_order}
 use Rattle.pin_book.proofs.Journals.{replays_take}
 
-abbrev first_edition : Edition
+abbrev pub first_edition : Edition
 first_edition = record { n = 1; src = 0; slot = 0 }
 
 abbrev pub number_of : Edition → ℕ
@@ -33,7 +33,7 @@ pushed_later journal w e has =
     subst (λ (xs : List Edition). Contains xs e) parts (Contains-append_left (pushes (take w journal)) (pushes (drop w journal)) e has)
 
 -- the version at the front at a position is the first one, or was pushed
-front_is_told : (slots : ℕ) (journal : List Write) (w : ℕ) → 0 < slots → replays slots journal ≡ true
+pub front_is_told : (slots : ℕ) (journal : List Write) (w : ℕ) → 0 < slots → replays slots journal ≡ true
     → (front_of (state_after slots (take w journal)).listed ≡ first_edition) ⊎ Contains (pushes journal) (front_of (state_after slots (take w journal)).listed)
 front_is_told slots journal w some h =
     let part = replays_take slots journal w h in

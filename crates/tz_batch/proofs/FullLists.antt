@@ -59,7 +59,7 @@ stays n m (x ∷ xs) less (suc k, low, at) =
     cond_both (not (x == n)) (x ∷ others n xs) (others n xs) (λ (kept : List ℕ). Contains kept m) (λ yes. (suc rest.0, omega (arith, rest.1), rest.2)) (λ no. rest)
 
 -- a list with all numbers below one has as many elements at least
-covers : (n : ℕ) (xs : List ℕ) → ((k : ℕ) → k < n → Contains xs k) → n ≤ length xs
+pub covers : (n : ℕ) (xs : List ℕ) → ((k : ℕ) → k < n → Contains xs k) → n ≤ length xs
 covers zero xs all = omega arith
 covers (suc n) xs all =
     let rest = covers n (others n xs) (λ k low. stays n k xs low (all k (omega (arith, low)))) in
@@ -102,7 +102,7 @@ first_of (suc j) (suc k) (x ∷ xs) low = ap (λ (ys : List Write). x ∷ ys) (f
 -- ---- full lists ----
 
 -- a slot that is listed has a version there
-listed_there : (slot : ℕ) (es : List Edition) → is_slot_listed slot es ≡ true → (e : Edition) × Contains es e × (e.slot ≡ slot)
+pub listed_there : (slot : ℕ) (es : List Edition) → is_slot_listed slot es ≡ true → (e : Edition) × Contains es e × (e.slot ≡ slot)
 listed_there slot [] listed = cc
 listed_there slot (e ∷ es) listed =
     ⊎_elim
@@ -111,7 +111,7 @@ listed_there slot (e ∷ es) listed =
     (or_cases (e.slot == slot) (is_slot_listed slot es) listed)
 
 -- the slot of an element is among the slots
-slot_there : (es : List Edition) (e : Edition) → Contains es e → Contains (map (λ (it : Edition). it.slot) es) e.slot
+pub slot_there : (es : List Edition) (e : Edition) → Contains es e → Contains (map (λ (it : Edition). it.slot) es) e.slot
 slot_there [] e (k, low, at) = absurd (omega (arith, low))
 slot_there (x ∷ es) e (zero, low, at) = (0, omega arith, ap (λ (it : Edition). it.slot) at)
 slot_there (x ∷ es) e (suc k, low, at) = let rest = slot_there es e (k, omega (arith, low), at) in (suc rest.0, omega (arith, rest.1), rest.2)

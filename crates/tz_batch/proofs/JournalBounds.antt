@@ -1,5 +1,5 @@
 -- How great the numbers of a run's journal are.
-use Rattle.std.proofs.Common.{◌≡◌, ℕ, zero, suc, ◌+◌, ◌*◌, ◌≤◌, ◌<◌, ◌^◌, ◌==◌, nat_lt, nat_le, not, Bool, true, cond, ◌⊎◌, inl, inr, ⊎_elim, length-append, List, [], ◌∷◌, ◌++◌, length, get_or, take, filter_map, Contains, Option, Some, None, refl, sym, ap, subst, arith}
+use Rattle.std.proofs.Common.{false, ◌∙◌, ◌≡◌, ℕ, zero, suc, ◌+◌, ◌-◌, ◌*◌, ◌≤◌, ◌<◌, ◌^◌, ◌==◌, nat_lt, nat_le, not, Bool, true, cond, ◌⊎◌, inl, inr, ⊎_elim, length-append, List, [], ◌∷◌, ◌++◌, length, map, append_assoc, get_or, take, filter_map, Contains, Option, Some, None, refl, sym, ap, subst, arith}
 use Rattle.std.specs.List.{All, list_all, cons_option}
 use Rattle.std.proofs.lemmas.Bool.{cond_both, and_parts, eqb-true, eq-eqb, ltb-true, leb-true, not-true, leb-false}
 use Rattle.std.proofs.lemmas.List.{length-map, length-take}
@@ -15,22 +15,29 @@ use Rattle.tz_version.specs.declared.sources.Sources.{Sources}
 use Rattle.pin_book.specs.declared.write.Change.{Change}
 use Rattle.pin_book.specs.declared.write.Change.TheVariants.{Push, Erase}
 use Rattle.pin_book.specs.declared.write.Write.{Write}
-use Rattle.pin_book.specs.Replay.{ListState, opening, front_of, allowed, after_write, state_after, replays_from, replays}
+use Rattle.pin_book.specs.Replay.{Edition, is_slot_listed, ListState, opening, front_of, allowed, after_write, state_after, replays_from, replays}
 use Rattle.pin_book.specs.Pushes.{pushed_by, pushes}
 use Rattle.pin_book.specs.Sequence.{writes_by, counts_from}
 use Rattle.pin_book.proofs.ListLemmas.{listed_below}
 use Rattle.pin_book.proofs.ReplayLemmas.{Orderly, push_asks, erase_asks, gone_less, change_orderly, opening_orderly, replay_orderly}
+use Rattle.pin_book.proofs.LawLemmas.{listed_told}
 use Rattle.pin_book.proofs.Journals.{replays_take}
 use Rattle.tz_batch.specs.Fitting.{FitsWord, FitsChange, FitsWrite}
 use Rattle.tz_batch.specs.Batch.{Answered, each_answered, answered, is_write_before}
 use Rattle.tz_batch.specs.Laws.{batch_of}
-use Rattle.tz_batch.specs.Run.{PlacedChange, change_told, change_told_in, changes_by, IsRun}
+use Rattle.tz_batch.specs.Run.{PlacedChange, change_told, change_told_in, changes_by, TakesFirstSlot, PassesOver, IsRun}
+use Rattle.tz_batch.specs.PassedOver.{IsPassedOver}
+use Rattle.tz_batch.specs.Round.{round_of}
 use Rattle.tz_batch.specs.declared.answer.Answer.{Answer}
 use Rattle.tz_batch.specs.declared.answer.Answer.TheVariants as answers
 use Rattle.tz_batch.specs.declared.outcome.Outcome.{Outcome}
 use Rattle.tz_batch.specs.declared.reply.Reply.{Reply}
-use Rattle.tz_batch.proofs.Fronts.{nothing_allowed, none_taken}
+use Rattle.tz_batch.proofs.Fronts.{first_edition, front_is_told, nothing_allowed, none_taken, pushed_later}
 use Rattle.tz_batch.proofs.LanePositions.{both}
+use Rattle.tz_batch.proofs.FullLists.{covers, listed_there, slot_there}
+
+abbrev slot_of : Edition → ℕ
+slot_of edition = edition.slot
 
 -- ---- elements ----
 
@@ -134,18 +141,17 @@ seq_low write before (x ∷ xs) counts has =
     (first_or_later x write xs has))
     counts
 
--- ---- numbers of versions, and slots ----
+-- ---- numbers of versions ----
 
--- the numbers of versions are at most so great, and the slot is one of the list's
-abbrev IsLow : ℕ → ℕ → Change → Type 0
-IsLow slots most (Push n src slot) = (n ≤ most) × (slot < slots)
-IsLow slots most (Erase after gone) = (after ≤ most) × (gone ≤ most)
+-- the numbers of versions are at most so great
+abbrev IsLow : ℕ → Change → Type 0
+IsLow most (Push n src slot) = n ≤ most
+IsLow most (Erase after gone) = (after ≤ most) × (gone ≤ most)
 
 change_low : (slots pushed most : ℕ) (state : ListState) (change : Change) → Orderly slots pushed state → allowed state change ≡ true
-    → pushed + 2 ≤ most → IsLow slots most change
+    → pushed + 2 ≤ most → IsLow most change
 change_low slots pushed most state (Push n src slot) orderly may low =
-    let asks = push_asks state n src slot may in
-    (omega (arith, asks.next, orderly.front, low), omega (arith, asks.inside, orderly.wide))
+    omega (arith, (push_asks state n src slot may).next, orderly.front, low)
 change_low slots pushed most state (Erase after gone) orderly may low =
     let asks = erase_asks state after gone may in
     let behind = listed_below (pushed + 2) after state.kept state.listed orderly.stands asks.listed in
@@ -157,17 +163,17 @@ few_pushed (Erase after gone) = omega arith
 
 -- the changes of writes that replay are
 changes_low : (slots pushed most : ℕ) (state : ListState) (xs : List Write) → Orderly slots pushed state → replays_from state xs ≡ true
-    → pushed + length xs + 1 ≤ most → All (λ (write : Write). IsLow slots most write.change) xs
-changes_low slots pushed most state [] orderly replay low = All-nil (λ (write : Write). IsLow slots most write.change)
+    → pushed + length xs + 1 ≤ most → All (λ (write : Write). IsLow most write.change) xs
+changes_low slots pushed most state [] orderly replay low = All-nil (λ (write : Write). IsLow most write.change)
 changes_low slots pushed most state (write ∷ later) orderly replay low =
     let parts = and_parts (allowed state write.change) (replays_from (after_write state write) later) replay in
-    All-cons (λ (it : Write). IsLow slots most it.change) write later
+    All-cons (λ (it : Write). IsLow most it.change) write later
     (change_low slots pushed most state write.change orderly parts.0 (omega (arith, low)))
     (changes_low slots (pushed + length (pushed_by write.change)) most (after_write state write) later (change_orderly slots pushed state write.change orderly parts.0) parts.1 (omega (arith, low, few_pushed write.change)))
 
 numbers_low : (slots most : ℕ) (journal : List Write) → replays slots journal ≡ true → length journal + 1 ≤ most
-    → All (λ (write : Write). IsLow slots most write.change) journal
-numbers_low zero most [] replay low = All-nil (λ (write : Write). IsLow 0 most write.change)
+    → All (λ (write : Write). IsLow most write.change) journal
+numbers_low zero most [] replay low = All-nil (λ (write : Write). IsLow most write.change)
 numbers_low zero most (write ∷ later) replay low =
     absurd (nothing_allowed write.change (and_parts (allowed (opening 0) write.change) (replays_from (after_write (opening 0) write) later) replay).0)
 numbers_low (suc slots) most journal replay low =
@@ -190,16 +196,25 @@ front_low (suc slots) w journal replay =
     let orderly = replay_orderly (suc slots) (take w journal) (omega arith) (replays_take (suc slots) journal w replay) in
     omega (arith, orderly.front, few_pushes (take w journal), length-take w journal)
 
--- ---- sources ----
+-- ---- what replies tell, and what is written ----
 
 -- the source of a push is one of so many
 abbrev HasText : ℕ → Change → Type 0
 HasText sources (Push n src slot) = src < sources
 HasText sources (Erase after gone) = Unit {0}
 
-abbrev TellsText : ℕ → Option PlacedChange → Type 0
-TellsText sources None = Unit {0}
-TellsText sources (Some placed) = HasText sources placed.change
+-- the slot of a push is at most so great
+abbrev HasLowSlot : ℕ → Change → Type 0
+HasLowSlot most (Push n src slot) = slot ≤ most
+HasLowSlot most (Erase after gone) = Unit {0}
+
+-- a change that is told is so
+abbrev IfTold : (Change → Type 0) → Option PlacedChange → Type 0
+IfTold P None = Unit {0}
+IfTold P (Some placed) = P placed.change
+
+abbrev OfPlaced : (Change → Type 0) → PlacedChange → Type 0
+OfPlaced P placed = P placed.change
 
 asked_there : (sources src : ℕ) → not (nat_le sources src) ≡ true → src < sources
 asked_there sources src there = leb-false sources src (not-true (nat_le sources src) there)
@@ -207,62 +222,70 @@ asked_there sources src there = leb-false sources src (not-true (nat_le sources 
 -- a reply to an operation whose text is there tells of no other source
 tells_text : (sources line round lane said w : ℕ) (op : Op) (answer : Answer)
     → is_there sources (record { line = line; round = round; lane = lane; op = op }) ≡ true
-    → TellsText sources (change_told (both (record { line = line; round = round; lane = lane; op = op }) (record { line = said; w = w; answer = answer })))
+    → IfTold (HasText sources) (change_told (both (record { line = line; round = round; lane = lane; op = op }) (record { line = said; w = w; answer = answer })))
 tells_text sources line round lane said w (ops.Reload src) (answers.Pushed n slot) there = asked_there sources src there
 tells_text sources line round lane said w (ops.Reload src) (answers.Erased n slot gone) there = tt
 tells_text sources line round lane said w (ops.Reload src) _ there = tt
 tells_text sources line round lane said w _ (answers.Erased n slot gone) there = tt
 tells_text sources line round lane said w _ _ there = tt
 
-abbrev IsPlacedThere : ℕ → PlacedChange → Type 0
-IsPlacedThere sources placed = HasText sources placed.change
+one_more_told : (P : Change → Type 0) (lane : ℕ) (here : Answered) (those : List PlacedChange) → IfTold P (change_told here)
+    → All (OfPlaced P) those → All (OfPlaced P) (cons_option (change_told_in lane here) those)
+one_more_told P lane here those one all =
+    cond_both (here.operation.lane == lane) (change_told here) None (λ (told : Option PlacedChange). All (OfPlaced P) (cons_option told those))
+    (λ yes. with_it (change_told here) one)
+    (λ no. all)
+  where
+    with_it : (told : Option PlacedChange) → IfTold P told → All (OfPlaced P) (cons_option told those)
+    with_it None h = all
+    with_it (Some placed) h = All-cons (OfPlaced P) placed those h all
 
-one_more_there : (sources : ℕ) (change : Option PlacedChange) (those : List PlacedChange) → TellsText sources change
-    → All (IsPlacedThere sources) those → All (IsPlacedThere sources) (cons_option change those)
-one_more_there sources None those one all = all
-one_more_there sources (Some placed) those one all = All-cons (IsPlacedThere sources) placed those one all
-
--- so are the sources that a lane's replies tell of
+-- the sources that a lane's replies tell of are there
 told_there : (sources lane : ℕ) (operations : List Operation) (replies : List Reply) → list_all (is_there sources) operations ≡ true
-    → All (IsPlacedThere sources) (filter_map (change_told_in lane) (each_answered operations replies))
-told_there sources lane [] replies there = All-nil (IsPlacedThere sources)
-told_there sources lane (o ∷ operations) [] there = All-nil (IsPlacedThere sources)
+    → All (OfPlaced (HasText sources)) (filter_map (change_told_in lane) (each_answered operations replies))
+told_there sources lane [] replies there = All-nil (OfPlaced (HasText sources))
+told_there sources lane (o ∷ operations) [] there = All-nil (OfPlaced (HasText sources))
 told_there sources lane (o ∷ operations) (reply ∷ replies) there =
     let parts = and_parts (is_there sources o) (list_all (is_there sources) operations) there in
-    one_more_there sources (change_told_in lane (both o reply)) (filter_map (change_told_in lane) (each_answered operations replies))
-    (cond_both (o.lane == lane) (change_told (both o reply)) None (TellsText sources)
-    (λ yes. tells_text sources o.line o.round o.lane reply.line reply.w o.op reply.answer parts.0)
-    (λ no. tt))
+    one_more_told (HasText sources) lane (both o reply) (filter_map (change_told_in lane) (each_answered operations replies))
+    (tells_text sources o.line o.round o.lane reply.line reply.w o.op reply.answer parts.0)
     (told_there sources lane operations replies parts.1)
 
--- and those of a lane's writes
-written_there : (sources w : ℕ) (write : Write) (xs : List Write) → All (IsPlacedThere sources) (changes_by write.by w xs) → Contains xs write
-    → HasText sources write.change
-written_there sources w write [] all (k, low, at) = absurd (omega (arith, low))
-written_there sources w write (x ∷ xs) all has =
+-- what holds of the changes of a number holds of each write by it
+of_write : (P : Change → Type 0) (w : ℕ) (write : Write) (xs : List Write) → All (OfPlaced P) (changes_by write.by w xs) → Contains xs write
+    → P write.change
+of_write P w write [] all (k, low, at) = absurd (omega (arith, low))
+of_write P w write (x ∷ xs) all has =
     let here : PlacedChange = record { w = w; change = x.change } in
     let rest : List PlacedChange = changes_by write.by (suc w) xs in
-    cond_both (x.by == write.by) (here ∷ rest) rest (λ (those : List PlacedChange). All (IsPlacedThere sources) those → HasText sources write.change)
+    cond_both (x.by == write.by) (here ∷ rest) rest (λ (those : List PlacedChange). All (OfPlaced P) those → P write.change)
     (λ yes told.
     ⊎_elim
-    (λ (same : x ≡ write). subst (λ (it : Write). HasText sources it.change) same (All-head (IsPlacedThere sources) here rest told))
-    (λ (later : Contains xs write). written_there sources (suc w) write xs (All-tail (IsPlacedThere sources) here rest told) later)
+    (λ (same : x ≡ write). subst (λ (it : Write). P it.change) same (All-head (OfPlaced P) here rest told))
+    (λ (later : Contains xs write). of_write P (suc w) write xs (All-tail (OfPlaced P) here rest told) later)
     (first_or_later x write xs has))
     (λ no told.
     ⊎_elim
     (λ (same : x ≡ write). let own = eq-eqb x.by write.by (ap (λ (it : Write). it.by) same) in cc)
-    (λ (later : Contains xs write). written_there sources (suc w) write xs told later)
+    (λ (later : Contains xs write). of_write P (suc w) write xs told later)
     (first_or_later x write xs has))
     all
 
 -- ---- runs ----
 
-change_fits : (sources slots most : ℕ) (change : Change) → FitsWord sources → FitsWord slots → FitsWord most → IsLow slots most change
-    → HasText sources change → FitsChange change
-change_fits sources slots most (Push n src slot) few fits small low there =
-    (omega (arith, small, low.0), omega (arith, few, there), omega (arith, fits, low.1))
-change_fits sources slots most (Erase after gone) few fits small low there =
+change_fits : (sources most : ℕ) (change : Change) → FitsWord sources → FitsWord most → IsLow most change → HasText sources change
+    → HasLowSlot most change → FitsChange change
+change_fits sources most (Push n src slot) few small low there slots =
+    (omega (arith, small, low), omega (arith, few, there), omega (arith, small, slots))
+change_fits sources most (Erase after gone) few small low there slots =
     (omega (arith, small, low.0), omega (arith, small, low.1))
+
+-- a list that a write changes has slots
+some_slots : (slots : ℕ) (journal : List Write) (write : Write) → replays slots journal ≡ true → Contains journal write → 0 < slots
+some_slots zero [] write replay (k, low, at) = absurd (omega (arith, low))
+some_slots zero (first ∷ later) write replay has =
+    absurd (nothing_allowed first.change (and_parts (allowed (opening 0) first.change) (replays_from (after_write (opening 0) first) later) replay).0)
+some_slots (suc slots) journal write replay has = omega arith
 
 module _ (script : Script) (sources : Sources) (slots : ℕ) (outcome : Outcome) (run : IsRun script sources slots outcome) where
   lanes_few : script.lanes ≤ MOST_LANES
@@ -277,19 +300,84 @@ module _ (script : Script) (sources : Sources) (slots : ℕ) (outcome : Outcome)
   journal_few =
       omega (arith, lanes_few, few_below script.lanes outcome.journal own_few, all_below script.lanes outcome.journal run.writes.no_others)
 
+  -- the first version, and those that are pushed
+  known : List Edition
+  known = first_edition ∷ pushes outcome.journal
+
+  is_known : (e : Edition) → (e ≡ first_edition) ⊎ Contains (pushes outcome.journal) e → Contains (map slot_of known) e.slot
+  unfolding known
+  is_known e (inl same) = slot_there known e (0, omega arith, sym same)
+  is_known e (inr (k, low, at)) = slot_there known e (suc k, omega (arith, low), at)
+
+  -- the front's slot is one of theirs
+  front_known : (w slot : ℕ) → 0 < slots → (front_of (state_after slots (take w outcome.journal)).listed).slot ≡ slot → Contains (map slot_of known) slot
+  front_known w slot some is =
+      subst (Contains (map slot_of known)) is (is_known (front_of (state_after slots (take w outcome.journal)).listed) (front_is_told slots outcome.journal w some run.replay))
+
+  -- so is a slot that is listed
+  listed_known : (w slot : ℕ) → 0 < slots → is_slot_listed slot (state_after slots (take w outcome.journal)).listed ≡ true → Contains (map slot_of known) slot
+  listed_known w slot some listed =
+      let there = listed_there slot (state_after slots (take w outcome.journal)).listed listed in
+      let told = (listed_told slots (take w outcome.journal) there.0 some (replays_take slots outcome.journal w run.replay)).0 there.1 in
+      subst (Contains (map slot_of known)) there.2
+      (is_known there.0 (⊎_elim (λ (same : there.0 ≡ first_edition). inl same) (λ (has : Contains (pushes (take w outcome.journal)) there.0). inr (pushed_later outcome.journal w there.0 has)) told.0))
+
+  -- and each slot that a push passes over
+  passed_known : (number : ℕ) (before : List Answered) (operation : Operation) (w slot : ℕ) → 0 < slots
+      → IsPassedOver (round_of (batch_of script sources slots outcome) number) before operation w slot → Contains (map slot_of known) slot
+  passed_known number before operation w slot some (inl listed) = listed_known w slot some listed
+  passed_known number before operation w slot some (inr may) = by_lanes (script.lanes == 1) refl
+    where
+      by_lanes : (one : Bool) → (script.lanes == 1) ≡ one → Contains (map slot_of known) slot
+      by_lanes true is = let held = may.0 (eqb-true script.lanes 1 is) in front_known held.begun.reply.w slot some held.in_slot
+      by_lanes false is = let front = may.1 (λ one. let yes = eq-eqb script.lanes 1 one in cc) in front_known front.0 slot some front.3
+
+  -- so a push takes no great slot
+  slot_low : (number : ℕ) (before : List Answered) (operation : Operation) (w slot : ℕ) → 0 < slots
+      → TakesFirstSlot (round_of (batch_of script sources slots outcome) number) before operation w slot → slot ≤ length outcome.journal + 1
+  unfolding known
+  slot_low number before operation w slot some takes =
+      omega (arith, covers slot (map slot_of known) (λ other low. passed_known number before operation w other some (takes.lower other low)), length-map known slot_of, few_pushes outcome.journal)
+
+  tells_slot : (before : List Answered) (line round lane said w : ℕ) (op : Op) (answer : Answer) → 0 < slots
+      → PassesOver (round_of (batch_of script sources slots outcome) round) before (both (record { line = line; round = round; lane = lane; op = op }) (record { line = said; w = w; answer = answer }))
+      → IfTold (HasLowSlot (length outcome.journal + 1)) (change_told (both (record { line = line; round = round; lane = lane; op = op }) (record { line = said; w = w; answer = answer })))
+  tells_slot before line round lane said w (ops.Reload src) (answers.Pushed n slot) some takes =
+      slot_low round before (record { line = line; round = round; lane = lane; op = ops.Reload src }) (w - 1) slot some takes
+  tells_slot before line round lane said w (ops.Reload src) (answers.Erased n slot gone) some takes = tt
+  tells_slot before line round lane said w (ops.Reload src) _ some takes = tt
+  tells_slot before line round lane said w _ (answers.Erased n slot gone) some takes = tt
+  tells_slot before line round lane said w _ _ some takes = tt
+
+  -- the slots that a lane's replies tell of aren't great
+  told_slots : (lane : ℕ) (before : List Answered) (operations : List Operation) (replies : List Reply) → 0 < slots
+      → answered (batch_of script sources slots outcome) ≡ before ++ each_answered operations replies
+      → All (OfPlaced (HasLowSlot (length outcome.journal + 1))) (filter_map (change_told_in lane) (each_answered operations replies))
+  told_slots lane before [] replies some is = All-nil (OfPlaced (HasLowSlot (length outcome.journal + 1)))
+  told_slots lane before (o ∷ operations) [] some is = All-nil (OfPlaced (HasLowSlot (length outcome.journal + 1)))
+  told_slots lane before (o ∷ operations) (reply ∷ replies) some is =
+      one_more_told (HasLowSlot (length outcome.journal + 1)) lane (both o reply) (filter_map (change_told_in lane) (each_answered operations replies))
+      (tells_slot before o.line o.round o.lane reply.line reply.w o.op reply.answer some (run.pushes before (each_answered operations replies) (both o reply) is))
+      (told_slots lane (before ++ both o reply ∷ []) operations replies some (is ∙ sym (append_assoc before (both o reply ∷ []) (each_answered operations replies))))
+
   -- the numbers of the writes fit
-  pub writes_fit : FitsWord slots → KeepsSources (length sources.texts) script.operations → All FitsWrite outcome.journal
-  writes_fit fits there = all_from FitsWrite outcome.journal each
+  pub writes_fit : KeepsSources (length sources.texts) script.operations → All FitsWrite outcome.journal
+  writes_fit there = all_from FitsWrite outcome.journal each
     where
       each : (write : Write) → Contains outcome.journal write → FitsWrite write
       each write has =
+          let most = length outcome.journal + 1 in
+          let texts = length sources.texts in
+          let lane = write.by + 1 in
           let own : write.by < script.lanes = ltb-true write.by script.lanes (passes (λ (it : Write). nat_lt it.by script.lanes) outcome.journal write run.writes.no_others has) in
-          let low = All-contains (λ (it : Write). IsLow slots (length outcome.journal + 1) it.change) outcome.journal write (numbers_low slots (length outcome.journal + 1) outcome.journal run.replay (omega arith)) has in
-          let text = written_there (length sources.texts) 1 write outcome.journal (subst (All (IsPlacedThere (length sources.texts))) (run.writes.same write.by own) (told_there (length sources.texts) (write.by + 1) script.operations outcome.replies there)) has in
+          let some = some_slots slots outcome.journal write run.replay has in
+          let low = All-contains (λ (it : Write). IsLow most it.change) outcome.journal write (numbers_low slots most outcome.journal run.replay (omega arith)) has in
+          let text = of_write (HasText texts) 1 write outcome.journal (subst (All (OfPlaced (HasText texts))) (run.writes.same write.by own) (told_there texts lane script.operations outcome.replies there)) has in
+          let slot = of_write (HasLowSlot most) 1 write outcome.journal (subst (All (OfPlaced (HasLowSlot most))) (run.writes.same write.by own) (told_slots lane [] script.operations outcome.replies some refl)) has in
           record {
             by = omega (arith, own, lanes_few);
             seq = omega (arith, seq_low write 0 outcome.journal (run.writes.counted write.by) has, journal_few);
-            change = change_fits (length sources.texts) slots (length outcome.journal + 1) write.change (omega (arith, sources.few_texts)) fits (omega (arith, journal_few)) low text;
+            change = change_fits texts most write.change (omega (arith, sources.few_texts)) (omega (arith, journal_few)) low text slot;
           }
 
   -- there is a reply to each operation

@@ -7,10 +7,10 @@ pub mod OneZone
 pub mod FoundOnce
 pub mod RefusedOnce
 pub mod LanePositions
+pub mod FullLists
 pub mod JournalBounds
 pub mod AnswerTexts
 pub mod RunTexts
 pub mod FirstRun
 pub mod HeldSlots
-pub mod FullLists
 pub mod TwoLanes

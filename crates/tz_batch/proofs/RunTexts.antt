@@ -14,7 +14,6 @@ use Rattle.tz_version.specs.declared.sources.Sources.{Sources}
 use Rattle.pin_book.specs.Replay.{Edition}
 use Rattle.pin_book.specs.declared.write.Write.{Write}
 use Rattle.tz_batch.specs.OutcomeText.{answer_text, reply_line, outcome_text}
-use Rattle.tz_batch.specs.Fitting.{FitsWord}
 use Rattle.tz_batch.specs.Batch.{Batch, Answered, each_answered, answered}
 use Rattle.tz_batch.specs.Laws.{batch_of}
 use Rattle.tz_batch.specs.Round.{round_of}
@@ -149,17 +148,17 @@ unfolding outcome_of
 outcome_same a b one two = ap (λ journal. outcome_of journal a.replies) one ∙ ap (λ replies. outcome_of b.journal replies) two
 
 -- what a run prints before its replies fits
-fits_front : (script : Script) (sources : Sources) (slots : ℕ) (outcome : Outcome) → FitsWord slots → KeepsSources (length sources.texts) script.operations
+fits_front : (script : Script) (sources : Sources) (slots : ℕ) (outcome : Outcome) → KeepsSources (length sources.texts) script.operations
     → IsRun script sources slots outcome → FitsFront outcome
-fits_front script sources slots outcome fits there run = record {
+fits_front script sources slots outcome there run = record {
   few_writes = omega (arith, journal_few script sources slots outcome run);
   few_replies = omega (arith, replies_few script sources slots outcome run);
-  writes = writes_fit script sources slots outcome run fits there;
+  writes = writes_fit script sources slots outcome run there;
 }
 
 -- two runs of a script that have the same text are the same
-pub outcome_settled : (script : Script) (sources : Sources) (slots : ℕ) (a b : Outcome) → FitsWord slots → KeepsSources (length sources.texts) script.operations
+pub outcome_settled : (script : Script) (sources : Sources) (slots : ℕ) (a b : Outcome) → KeepsSources (length sources.texts) script.operations
     → IsRun script sources slots a → IsRun script sources slots b → outcome_text a ≡ outcome_text b → a ≡ b
-outcome_settled script sources slots a b fits there run_a run_b e =
-    let parts = parts_settled a b (fits_front script sources slots a fits there run_a) (fits_front script sources slots b fits there run_b) e in
+outcome_settled script sources slots a b there run_a run_b e =
+    let parts = parts_settled a b (fits_front script sources slots a there run_a) (fits_front script sources slots b there run_b) e in
     outcome_same a b parts.0 (replies_same script sources slots a b parts.0 run_a run_b [] script.operations a.replies b.replies refl refl run_a.replies.one_each run_b.replies.one_each parts.2)

@@ -4,7 +4,7 @@ ghost use Rattle.tz_script.specs.Keeping.{KeepsSources};
 ghost use Rattle.tz_script.specs.declared.script.Script.{Script as DeclaredScript};
 ghost use Rattle.tz_version.specs.declared.sources.Sources.{Sources as DeclaredSources};
 ghost use Rattle.tz_batch.specs.OutcomeText.{outcome_text};
-ghost use Rattle.tz_batch.specs.Fitting.{FitsWord, FitsOutcome, reply_told};
+ghost use Rattle.tz_batch.specs.Fitting.{FitsOutcome, reply_told};
 ghost use Rattle.tz_batch.specs.Run.{IsRun};
 ghost use Rattle.tz_batch.specs.FirstLook.{lone_look, first_outcome};
 ghost use Rattle.tz_batch.specs.declared.outcome.Outcome.{Outcome as DeclaredOutcome};
@@ -23,7 +23,7 @@ pub fn texts_settle_what_replies_tell()
 /// Two runs of one script, over the same sources and in lists of as many slots, that have the same text are the same,
 /// where each text that the script asks for is among the sources, as it has to be before a script is run.
 pub fn texts_settle_outcomes()
-    ensures { (script : DeclaredScript) (sources : DeclaredSources) (slots : ℕ) (a b : DeclaredOutcome) → FitsWord slots → KeepsSources (length sources.texts) script.operations → IsRun script sources slots a → IsRun script sources slots b → outcome_text a ≡ outcome_text b → a ≡ b }
+    ensures { (script : DeclaredScript) (sources : DeclaredSources) (slots : ℕ) (a b : DeclaredOutcome) → KeepsSources (length sources.texts) script.operations → IsRun script sources slots a → IsRun script sources slots b → outcome_text a ≡ outcome_text b → a ≡ b }
 {}
 
 /// A script that only looks once, in its first lane and round, has a run: no write, and version 1 in slot 0.
