@@ -28,3 +28,4 @@ pub mod HandleMoves
 pub mod HandPins
 pub mod HandReleases
 pub mod FrontLemmas
+pub mod CallLemmas

@@ -21,4 +21,5 @@ pub mod Turns
 pub mod Claims
 pub mod Reader
 pub mod Pins
+pub mod Kept
 pub mod Numbers

@@ -1,5 +1,5 @@
 //! The calls of a reader that erase the version behind one of its handles.
-ghost use Rattle.std.specs.Prelude.{◌≡◌, ◌+◌, ◌<◌, ◌≤◌, ◌∷◌, [], ◌++◌, true, length, IsTrue, IfOk, IfErr};
+ghost use Rattle.std.specs.Prelude.{◌≡◌, ◌+◌, ◌<◌, ◌≤◌, ◌∷◌, [], ◌++◌, true, length, IsTrue, IfOk, IfErr, OnErr};
 ghost use Rattle.pin_book.specs.declared.write.Change.TheVariants.{Erase};
 ghost use Rattle.pin_book.specs.Replay.{is_listed, greatest_below, replays};
 ghost use Rattle.pin_book.specs.Sequence.{writes_by};
@@ -8,6 +8,7 @@ ghost use Rattle.pin_core.specs.Step.{stored};
 ghost use Rattle.pin_table.specs.BookHeld.{WritesIn};
 ghost use Rattle.pin_table.specs.Handles.{MadeBy};
 ghost use Rattle.pin_table.specs.Idle.{IsIdle};
+ghost use Rattle.pin_table.specs.Kept.{KeepsPins, KeepsWrites, KeepsHandles};
 ghost use Rattle.pin_table.specs.Position.{IsAfter};
 ghost use Rattle.pin_table.specs.Reader.{reader_view};
 ghost use Rattle.pin_table.specs.Seat.{knowing};
@@ -121,6 +122,9 @@ impl<'t, P: Payload> Reader<'t, P> {
         ensures erased { TriesErase (plan self.old.table.now) self.old.number handle.now.number (reader_view self.old) (reader_view self.new) result }
         ensures table { self.new.table.now ≡ self.old.table.now }
         ensures number { self.new.number ≡ self.old.number }
+        ensures kept { KeepsPins (reader_view self.old) (reader_view self.new) }
+        ensures handles { KeepsHandles P.home P.source self.old self.new }
+        ensures unwritten { OnErr result (KeepsWrites (reader_view self.old) (reader_view self.new)) }
     {
         let (answer, front, left) = erase_in_turn(
             self.table,
@@ -140,6 +144,9 @@ impl<'t, P: Payload> Reader<'t, P> {
         ensures erased { AfterWait (reader_view self.old) (λ v. Erases (plan self.old.table.now).slots self.old.number handle.now.number v (reader_view self.new) result) }
         ensures table { self.new.table.now ≡ self.old.table.now }
         ensures number { self.new.number ≡ self.old.number }
+        ensures kept { KeepsPins (reader_view self.old) (reader_view self.new) }
+        ensures handles { KeepsHandles P.home P.source self.old self.new }
+        ensures unwritten { OnErr result (KeepsWrites (reader_view self.old) (reader_view self.new)) }
     {
         for _ in rt.forever() {
             match self.try_erase_after(handle) {

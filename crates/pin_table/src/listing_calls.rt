@@ -1,6 +1,7 @@
 //! The calls of a reader that list the versions.
 ghost use Rattle.std.specs.Prelude.{◌≡◌, IfOk, IfErr};
 ghost use Rattle.pin_table.specs.Idle.{IsIdle};
+ghost use Rattle.pin_table.specs.Kept.{KeepsPins, KeepsWrites, KeepsHandles};
 ghost use Rattle.pin_table.specs.Position.{IsAfter};
 ghost use Rattle.pin_table.specs.Reader.{reader_view};
 ghost use Rattle.pin_table.specs.Table.{IsAt, plan};
@@ -47,6 +48,9 @@ impl<'t, P: Payload> Reader<'t, P> {
         ensures busy { IfErr result (λ busy. MeetsTurn (plan self.old.table.now) self.old.number (reader_view self.old) (reader_view self.new) busy.holder) }
         ensures table { self.new.table.now ≡ self.old.table.now }
         ensures number { self.new.number ≡ self.old.number }
+        ensures kept { KeepsPins (reader_view self.old) (reader_view self.new) }
+        ensures handles { KeepsHandles P.home P.source self.old self.new }
+        ensures unwritten { KeepsWrites (reader_view self.old) (reader_view self.new) }
     {
         let (listing, front) = list_in_turn(self.table, &mut self.hand, self.number)?;
         self.seen = front;
@@ -58,6 +62,9 @@ impl<'t, P: Payload> Reader<'t, P> {
         ensures listed { AfterWait (reader_view self.old) (λ v. Lists P.home P.name_of (plan self.old.table.now) v (reader_view self.new) result) }
         ensures table { self.new.table.now ≡ self.old.table.now }
         ensures number { self.new.number ≡ self.old.number }
+        ensures kept { KeepsPins (reader_view self.old) (reader_view self.new) }
+        ensures handles { KeepsHandles P.home P.source self.old self.new }
+        ensures unwritten { KeepsWrites (reader_view self.old) (reader_view self.new) }
     {
         for _ in rt.forever() {
             match self.try_list() {

@@ -1,5 +1,5 @@
 //! Pins: how a reader gets handles on the front and releases them. No call here waits for another thread.
-ghost use Rattle.std.specs.Prelude.{◌≡◌, ◌<◌, ◌==◌, ◌↔◌, true, None, Some, ◌&&◌, position, length, IfOk, IfSome, IsErr, OnErr};
+ghost use Rattle.std.specs.Prelude.{◌≡◌, ◌<◌, ◌==◌, ◌↔◌, true, None, Some, ◌&&◌, position, length, Contains, IfOk, IfSome, IsErr, OnErr};
 ghost use Rattle.std.specs.List.{list_any};
 ghost use Rattle.pin_core.specs.declared.entry.Entry.{Entry};
 ghost use Rattle.std.specs.Arc.{arc_value};
@@ -8,7 +8,8 @@ ghost use Rattle.pin_core.specs.Core.{IsReader, held_count, times};
 ghost use Rattle.pin_core.specs.Packing.{place};
 ghost use Rattle.pin_table.specs.declared.reader.TheConstants.{MOST_HANDLES};
 ghost use Rattle.pin_table.specs.Carried.{slots_of};
-ghost use Rattle.pin_table.specs.Handles.{HasCopyAt, HasRoomAt, CopyTaken, CopyPut, MadeBy};
+ghost use Rattle.pin_table.specs.Handles.{Handle, pin_of, HasCopyAt, HasRoomAt, CopyTaken, CopyPut, MadeBy};
+ghost use Rattle.pin_table.specs.Kept.{KeepsHandles};
 ghost use Rattle.pin_table.specs.Pins.{PinsFront, PinsAtOnce, Misses, Releases};
 ghost use Rattle.pin_table.specs.Reader.{reader_view, seen};
 ghost use Rattle.pin_table.specs.Table.{IsAt, plan};
@@ -44,6 +45,7 @@ impl<'t, P: Payload> Reader<'t, P> {
         ensures refused { IsErr result ↔ (length (reader_view self.old).entries ≡ MOST_HANDLES) }
         ensures unchanged { OnErr result (self.new ≡ self.old) }
         ensures pinned { IfOk result (λ handle. PinsFront P.home P.source self.old self.new handle) }
+        ensures handles { KeepsHandles P.home P.source self.old self.new }
     {
         if self.entries.len() == MOST_HANDLES {
             return Err(TooManyHandles);
@@ -93,10 +95,12 @@ impl<'t, P: Payload> Reader<'t, P> {
         }
     }
 
-    /// Spends a handle of this reader. The call loads the front word first, and is never refused.
+    /// Spends a handle of this reader. The call loads the front word first, and is never refused. Others whose pins are left
+    /// stay the reader's.
     pub fn release(&mut self, handle: Pinned<P>) -> Released
         requires made { MadeBy P.home P.source (plan self.old.table.now) (reader_view self.old) handle }
-        ensures { Releases self.old self.new handle result }
+        ensures released { Releases self.old self.new handle result }
+        ensures others { (other : Handle P) → MadeBy P.home P.source (plan self.old.table.now) (reader_view self.old) other → Contains (reader_view self.new).entries (pin_of other) → MadeBy P.home P.source (plan self.new.table.now) (reader_view self.new) other }
     {
         let front = self.look();
         let Pinned {

@@ -1,5 +1,5 @@
 //! The calls of a reader that push a version.
-ghost use Rattle.std.specs.Prelude.{◌≡◌, ◌+◌, ◌<◌, ◌≤◌, ◌++◌, true, false, None, Some, [], ◌∷◌, length, drop, replicate, IfOk, IfErr, Contains, Ok, Err, ◌↔◌};
+ghost use Rattle.std.specs.Prelude.{◌≡◌, ◌+◌, ◌<◌, ◌≤◌, ◌++◌, true, false, None, Some, [], ◌∷◌, length, drop, replicate, IfOk, IfErr, OnErr, Contains, Ok, Err, ◌↔◌};
 ghost use Rattle.pin_book.specs.declared.write.Change.TheVariants.{Push};
 ghost use Rattle.pin_book.specs.Replay.{is_taken, front_number, front_of};
 ghost use Rattle.pin_core.specs.declared.entry.Entry.{Entry};
@@ -16,6 +16,7 @@ ghost use Rattle.pin_table.specs.Turns.{PushAnswers, Pushes, RefusesPush, AfterW
 ghost use Rattle.pin_book.specs.Sequence.{next_seq};
 ghost use Rattle.pin_table.specs.declared.cell.Cell.TheVariants.{Place};
 ghost use Rattle.pin_table.specs.Idle.{IsIdle};
+ghost use Rattle.pin_table.specs.Kept.{KeepsPins, KeepsWrites, KeepsHandles};
 ghost use Rattle.pin_table.specs.Position.{IsAfter};
 ghost use Rattle.pin_table.specs.Reader.{reader_view};
 ghost use Rattle.pin_table.specs.Runs.{run_from, CarriesRun};
@@ -256,6 +257,9 @@ impl<'t, P: Payload> Reader<'t, P> {
         ensures refused { IfErr result (λ refused. RefusesPush P.home P.source P.name_of (plan self.old.table.now) self.old.number (reader_view self.old) (reader_view self.new) copies.version refused.why × (refused.copies ≡ copies)) }
         ensures table { self.new.table.now ≡ self.old.table.now }
         ensures number { self.new.number ≡ self.old.number }
+        ensures kept { KeepsPins (reader_view self.old) (reader_view self.new) }
+        ensures handles { KeepsHandles P.home P.source self.old self.new }
+        ensures unwritten { OnErr result (KeepsWrites (reader_view self.old) (reader_view self.new)) }
     {
         let (answer, front, left) = push_in_turn(
             self.table,
@@ -277,6 +281,9 @@ impl<'t, P: Payload> Reader<'t, P> {
         ensures copies { IfErr result (λ refused. refused.copies ≡ copies) }
         ensures table { self.new.table.now ≡ self.old.table.now }
         ensures number { self.new.number ≡ self.old.number }
+        ensures kept { KeepsPins (reader_view self.old) (reader_view self.new) }
+        ensures handles { KeepsHandles P.home P.source self.old self.new }
+        ensures unwritten { OnErr result (KeepsWrites (reader_view self.old) (reader_view self.new)) }
     {
         let mut in_hand = copies;
         for _ in rt.forever() {

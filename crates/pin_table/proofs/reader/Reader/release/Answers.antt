@@ -10,6 +10,7 @@ use Rattle.pin_table.specs.Handles.{AreAllHeld, pin_of}
 use Rattle.pin_table.specs.Table.{plan}
 use Rattle.pin_table.proofs.PlaceLemmas.{take_seen}
 use Rattle.pin_table.proofs.HandReleases.{left_among}
+use Rattle.pin_table.proofs.CallLemmas.{release_keeps}
 use Rattle.pin_table.proofs.FrontLemmas.{sees_same, stands_at, found_at, not_missing}
 use Rattle.pin_table.proofs.reader.Reader.release.Goals as goal
 
@@ -30,8 +31,8 @@ unreachable-requires g c =
     not_missing v.entries slot w (subst (λ h. Contains v.entries (pin_of h)) (sym c.handle.view_is) (subst (λ es. Contains es (pin_of c.args.handle)) (sym (ap (λ (x : View). x.entries) c.look-front.ensures.view)) c.requires.made.pinned))
     (ap (position (stands_at slot w)) (sym (c.as_slice.ensures.value ∙ now.pins)) ∙ sym c.place_among.ensures ∙ c.in_default.is)
 
-pub returns : goal.returns
-returns g c =
+pub returns-clause-released : goal.returns-clause-released
+returns-clause-released g c =
     let old = c.args.self.now in let now = c.look-front.new.self in let v = now.hand.seat.me.0.core in let looks = c.look-front.ensures in let how = plan old.table.now in
     let made = c.requires.made in let e : Entry = pin_of c.args.handle in let view = ap (λ w. w.core) c.unpin-found.ensures.unpinned in let at = c.in-Some.place in
     let slot = c.handle.inside.slot in let w = c.handle.inside.position in
@@ -49,3 +50,6 @@ returns g c =
       kept = subst (λ s. kept_number how.slots s c.args.handle.slot ≡ c.args.handle.number) (sym seen_same)
           (subst (λ t. kept_number (plan t).slots v.seen c.args.handle.slot ≡ entry_number (plan t).slots v.seen e) looks.more.table (now.handles e among).kept ∙ same_number);
     }
+
+pub returns-clause-others : goal.returns-clause-others
+returns-clause-others g c = release_keeps g.P.Payload.home g.P.Payload.source c.args.self.now _ c.args.handle _ (returns-clause-released g c)
