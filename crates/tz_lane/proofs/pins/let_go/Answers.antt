@@ -8,11 +8,11 @@ use Rattle.tz_lane.proofs.pins.let_go.Goals as goal
 
 pub returns-clause-answer : goal.returns-clause-answer
 returns-clause-answer c sources begun =
-    let told = handle_told_later (plan c.args.reader.now.table.now) (reader_view c.args.reader.now) (reader_view c.release-released.new.self).seen c.args.handle c.requires.made c.release-released.ensures.more.grows in
-    (told.0 ∙ sym c.release-released.ensures.number, told.1 ∙ sym c.release-released.ensures.slot)
+    let told = handle_told_later (plan c.args.reader.now.table.now) (reader_view c.args.reader.now) (reader_view c.release-released.new.self).seen c.args.handle c.requires.made c.release-released.ensures.released.more.grows in
+    (told.0 ∙ sym c.release-released.ensures.released.number, told.1 ∙ sym c.release-released.ensures.released.slot)
 
 pub returns-clause-entries : goal.returns-clause-entries
 returns-clause-entries c =
     subst (λ (entries : List Entry). IsPermutation (reader_view c.args.reader.now).entries (pin_of c.args.handle ∷ entries))
-    (sym (ap (λ v. v.entries) c.release-released.ensures.view))
-    (taken_off (reader_view c.args.reader.now).entries c.release-released.ensures.at (pin_of c.args.handle) c.release-released.ensures.there)
+    (sym (ap (λ v. v.entries) c.release-released.ensures.released.view))
+    (taken_off (reader_view c.args.reader.now).entries c.release-released.ensures.released.at (pin_of c.args.handle) c.release-released.ensures.released.there)
