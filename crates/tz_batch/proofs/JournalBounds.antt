@@ -1,5 +1,5 @@
 -- How great the numbers of a run's journal are.
-use Rattle.std.proofs.Common.{false, ◌∙◌, ◌≡◌, ℕ, zero, suc, ◌+◌, ◌-◌, ◌*◌, ◌≤◌, ◌<◌, ◌^◌, ◌==◌, nat_lt, nat_le, not, Bool, true, cond, ◌⊎◌, inl, inr, ⊎_elim, length-append, List, [], ◌∷◌, ◌++◌, length, map, append_assoc, get_or, take, filter_map, Contains, Option, Some, None, refl, sym, ap, subst, arith}
+use Rattle.std.proofs.Common.{◌≡◌, ℕ, zero, suc, ◌+◌, ◌-◌, ◌*◌, ◌≤◌, ◌<◌, ◌^◌, ◌==◌, nat_lt, nat_le, not, Bool, true, false, cond, ◌⊎◌, inl, inr, ⊎_elim, length-append, List, [], ◌∷◌, ◌++◌, length, map, append_assoc, get_or, take, filter_map, Contains, Option, Some, None, refl, sym, ◌∙◌, ap, subst, arith}
 use Rattle.std.specs.List.{All, list_all, cons_option}
 use Rattle.std.proofs.lemmas.Bool.{cond_both, and_parts, eqb-true, eq-eqb, ltb-true, leb-true, not-true, leb-false}
 use Rattle.std.proofs.lemmas.List.{length-map, length-take}
