@@ -21,8 +21,7 @@ use Rattle.tz_lookup.specs.declared.found.Found.{Found}
 use Rattle.tz_batch.specs.OutcomeText.{version_text, finding_text, answer_text}
 use Rattle.tz_batch.specs.Batch.{Answered, name_of_source, row_of}
 use Rattle.tz_batch.specs.Round.{Round, list_at, newest_at}
-use Rattle.tz_batch.specs.Held.{LooksInto}
-use Rattle.tz_batch.specs.Answering.{IsToldAs, IsChangeAfter, IsRefusedWith, IsAccepted, HasNameOf, ErasesBehind, ErasesBehindTold, AnswersLook, AnswersHold, AnswersDrop, AnswersReload, AnswersErase, AnswersList, AnswersLookup}
+use Rattle.tz_batch.specs.Answering.{IsToldAs, IsChangeAfter, IsRefusedWith, IsAccepted, HasNameOf, ErasesBehind, ErasesBehindTold, LooksInto, AnswersLook, AnswersHold, AnswersDrop, AnswersReload, AnswersErase, AnswersList, AnswersLookup}
 use Rattle.tz_batch.specs.declared.answer.Answer.{Answer}
 use Rattle.tz_batch.specs.declared.answer.Answer.TheVariants as answers
 use Rattle.tz_batch.specs.declared.listing.Listing.{Listing}
@@ -50,13 +49,17 @@ pub record AreAlike (p q : Round) : Type 0 where
 abbrev pub WasFront : Round → Edition → Type 0
 WasFront round edition = (w : ℕ) × (edition ≡ newest_at round w)
 
-looks_at : (round : Round) (before : List Answered) (here : Answered) (pick : Pick) (edition : Edition) → LooksInto round before here pick edition → WasFront round edition
-looks_at round before here Front edition h = (here.reply.w, h)
-looks_at round before here (Held name) edition h = (h.begun.reply.w, h.version)
+-- what is held by a name was at the front at some position
+abbrev pub HoldFronts : Round → (List ℕ → Edition → Type 0) → Type 0
+HoldFronts round holds = (name : List ℕ) (edition : Edition) → holds name edition → WasFront round edition
 
-erases_at : (round : Round) (before : List Answered) (here : Answered) (pick : Pick) (met : ℕ) (edition : Edition) → ErasesBehind round before here pick met edition → WasFront round edition
-erases_at round before here Front met edition h = (h.0, h.3)
-erases_at round before here (Held name) met edition h = (h.begun.reply.w, h.version)
+looks_at : (round : Round) (holds : List ℕ → Edition → Type 0) (w : ℕ) → HoldFronts round holds → (pick : Pick) (edition : Edition) → LooksInto round holds w pick edition → WasFront round edition
+looks_at round holds w fronts Front edition h = (w, h)
+looks_at round holds w fronts (Held name) edition h = fronts name edition h
+
+erases_at : (round : Round) (last : ℕ) (holds : List ℕ → Edition → Type 0) → HoldFronts round holds → (pick : Pick) (met : ℕ) (edition : Edition) → ErasesBehind round last holds pick met edition → WasFront round edition
+erases_at round last holds fronts Front met edition h = (h.0, h.3)
+erases_at round last holds fronts (Held name) met edition h = fronts name edition h
 
 made_same : (make : ℕ → ℕ → Answer) (n slot m place : ℕ) → n ≡ m → slot ≡ place → make n slot ≡ make m place
 made_same make n slot m place one two = cc
@@ -155,31 +158,31 @@ module _ (p q : Round) (alike : AreAlike p q) where
   list_settled w v _ y at h k = absurd h
 
   -- with its text, to `drop`
-  pub drop_settled : (before : List Answered) (here there : Answered) (name : List ℕ) (x y : Answer) (z t : List ℕ) → AnswersDrop p before here name x → AnswersDrop q before there name y
+  pub drop_settled : (hold held : List ℕ → Edition → Type 0) → HoldFronts p hold → HoldFronts q held → (name : List ℕ) (x y : Answer) (z t : List ℕ) → AnswersDrop hold name x → AnswersDrop held name y
       → answer_text x ++ z ≡ answer_text y ++ t → x ≡ y
-  drop_settled before here there name (answers.Dropped n slot) (answers.Dropped m place) z t h k text =
-      let cut = version_cut h.0 k.0 n slot m place z t (h.1.begun.reply.w, h.1.version) (k.1.begun.reply.w, k.1.version) h.2 k.2 (append_cancel_left (codes "dropped ") (version_text n slot ++ z) (version_text m place ++ t) text) in
+  drop_settled hold held first second name (answers.Dropped n slot) (answers.Dropped m place) z t h k text =
+      let cut = version_cut h.0 k.0 n slot m place z t (first name h.0 h.1) (second name k.0 k.1) h.2 k.2 (append_cancel_left (codes "dropped ") (version_text n slot ++ z) (version_text m place ++ t) text) in
       told_alike answers.Dropped h.0 k.0 n slot m place cut.0 h.2 k.2
-  drop_settled before here there name (answers.Dropped n slot) _ z t h k text = absurd k
-  drop_settled before here there name _ y z t h k text = absurd h
+  drop_settled hold held first second name (answers.Dropped n slot) _ z t h k text = absurd k
+  drop_settled hold held first second name _ y z t h k text = absurd h
 
   -- to a lookup, where the version settles what is found
-  pub lookup_settled : (before : List Answered) (here there : Answered) (pick : Pick) (finds : Edition → Found → Type 0) (x y : Answer) (z t : List ℕ)
+  pub lookup_settled : (hold held : List ℕ → Edition → Type 0) → HoldFronts p hold → HoldFronts q held → (w v : ℕ) (pick : Pick) (finds : Edition → Found → Type 0) (x y : Answer) (z t : List ℕ)
       → ((e o : Edition) (f g : Found) → e.src ≡ o.src → finds e f → finds o g → f ≡ g)
-      → AnswersLookup p before here pick finds x → AnswersLookup q before there pick finds y → answer_text x ++ z ≡ answer_text y ++ t → x ≡ y
-  lookup_settled before here there pick finds (answers.On n slot what) (answers.On m place that) z t once h k text =
+      → AnswersLookup p hold w pick finds x → AnswersLookup q held v pick finds y → answer_text x ++ z ≡ answer_text y ++ t → x ≡ y
+  lookup_settled hold held first second w v pick finds (answers.On n slot what) (answers.On m place that) z t once h k text =
       let laid = sym (three_pieces (version_text n slot) (codes " ") (finding_text what) z) ∙ text ∙ three_pieces (version_text m place) (codes " ") (finding_text that) t in
-      let cut = version_cut h.0 k.0 n slot m place (codes " " ++ (finding_text what ++ z)) (codes " " ++ (finding_text that ++ t)) (looks_at p before here pick h.0 h.1) (looks_at q before there pick k.0 k.1) h.2 k.2 laid in
+      let cut = version_cut h.0 k.0 n slot m place (codes " " ++ (finding_text what ++ z)) (codes " " ++ (finding_text that ++ t)) (looks_at p hold w first pick h.0 h.1) (looks_at q held v second pick k.0 k.1) h.2 k.2 laid in
       on_same n slot m place what that (sym h.2.0 ∙ ap number_of cut.0 ∙ k.2.0) (sym h.2.1 ∙ ap slot_of cut.0 ∙ k.2.1)
       (once h.0 k.0 what that (ap (λ (it : Edition). it.src) cut.0) h.3 k.3)
-  lookup_settled before here there pick finds (answers.On n slot what) _ z t once h k text = absurd k
-  lookup_settled before here there pick finds _ y z t once h k text = absurd h
+  lookup_settled hold held first second w v pick finds (answers.On n slot what) _ z t once h k text = absurd k
+  lookup_settled hold held first second w v pick finds _ y z t once h k text = absurd h
 
   -- an erasure's text settles its version, and what follows
-  erasure_cut : (before : List Answered) (here there : Answered) (pick : Pick) (w v n slot m place : ℕ) (z t : List ℕ) → ErasesBehindTold p before here pick w n slot → ErasesBehindTold q before there pick v m place
+  erasure_cut : (hold held : List ℕ → Edition → Type 0) → HoldFronts p hold → HoldFronts q held → (low lower : ℕ) (pick : Pick) (w v n slot m place : ℕ) (z t : List ℕ) → ErasesBehindTold p low hold pick w n slot → ErasesBehindTold q lower held pick v m place
       → version_text n slot ++ z ≡ version_text m place ++ t → (n ≡ m) × (slot ≡ place) × (z ≡ t)
-  erasure_cut before here there pick w v n slot m place z t h k text =
-      let cut = version_cut h.0 k.0 n slot m place z t (erases_at p before here pick w h.0 h.1) (erases_at q before there pick v k.0 k.1) h.2 k.2 text in
+  erasure_cut hold held first second low lower pick w v n slot m place z t h k text =
+      let cut = version_cut h.0 k.0 n slot m place z t (erases_at p low hold first pick w h.0 h.1) (erases_at q lower held second pick v k.0 k.1) h.2 k.2 text in
       (sym h.2.0 ∙ ap number_of cut.0 ∙ k.2.0, sym h.2.1 ∙ ap slot_of cut.0 ∙ k.2.1, cut.1)
 
   -- what follows the version of an erasure
@@ -196,41 +199,41 @@ module _ (p q : Round) (alike : AreAlike p q) where
   unlisted_is_laid n slot z = append_assoc (version_text n slot) (codes " notlisted") z
 
   -- to `erase`
-  pub erase_settled : (before : List Answered) (here there : Answered) (pick : Pick) (w v : ℕ) (x y : Answer) (z t : List ℕ) → w ≡ v → AnswersErase p before here pick w x → AnswersErase q before there pick v y
+  pub erase_settled : (hold held : List ℕ → Edition → Type 0) → HoldFronts p hold → HoldFronts q held → (low lower : ℕ) (pick : Pick) (w v : ℕ) (x y : Answer) (z t : List ℕ) → w ≡ v → AnswersErase p low hold pick w x → AnswersErase q lower held pick v y
       → answer_text x ++ z ≡ answer_text y ++ t → x ≡ y
-  erase_settled before here there pick (suc w) (suc v) (answers.Erased n slot gone) (answers.Erased m place lost) z t at h k text =
-      let cut = erasure_cut before here there pick w v n slot m place (erased_tail gone z) (erased_tail lost t) h.0 k.0 (sym (erased_is_laid n slot gone z) ∙ text ∙ erased_is_laid m place lost t) in
+  erase_settled hold held first second low lower pick (suc w) (suc v) (answers.Erased n slot gone) (answers.Erased m place lost) z t at h k text =
+      let cut = erasure_cut hold held first second low lower pick w v n slot m place (erased_tail gone z) (erased_tail lost t) h.0 k.0 (sym (erased_is_laid n slot gone z) ∙ text ∙ erased_is_laid m place lost t) in
       erased_same n slot gone m place lost cut.0 cut.1 (gone_same n gone m lost (same_change w v (Erase n gone) (Erase m lost) (suc_inj at) h.2 k.2))
-  erase_settled before here there pick zero v (answers.Erased n slot gone) y z t at h k text = absurd h
-  erase_settled before here there pick w zero x (answers.Erased m place lost) z t at h k text = absurd k
-  erase_settled before here there pick (suc w) v (answers.Erased n slot gone) (answers.Nothing m place) z t at h k text =
-      let cut = erasure_cut before here there pick w v n slot m place (erased_tail gone z) (codes " nothing" ++ t) h.0 k.0 (sym (erased_is_laid n slot gone z) ∙ text ∙ nothing_is_laid m place t) in
+  erase_settled hold held first second low lower pick zero v (answers.Erased n slot gone) y z t at h k text = absurd h
+  erase_settled hold held first second low lower pick w zero x (answers.Erased m place lost) z t at h k text = absurd k
+  erase_settled hold held first second low lower pick (suc w) v (answers.Erased n slot gone) (answers.Nothing m place) z t at h k text =
+      let cut = erasure_cut hold held first second low lower pick w v n slot m place (erased_tail gone z) (codes " nothing" ++ t) h.0 k.0 (sym (erased_is_laid n slot gone z) ∙ text ∙ nothing_is_laid m place t) in
       absurd (apart 110 101 (omega arith) (sym (ap (byte_at 1) cut.2)))
-  erase_settled before here there pick (suc w) v (answers.Erased n slot gone) (answers.NotListed m place) z t at h k text =
-      let cut = erasure_cut before here there pick w v n slot m place (erased_tail gone z) (codes " notlisted" ++ t) h.0 k.0 (sym (erased_is_laid n slot gone z) ∙ text ∙ unlisted_is_laid m place t) in
+  erase_settled hold held first second low lower pick (suc w) v (answers.Erased n slot gone) (answers.NotListed m place) z t at h k text =
+      let cut = erasure_cut hold held first second low lower pick w v n slot m place (erased_tail gone z) (codes " notlisted" ++ t) h.0 k.0 (sym (erased_is_laid n slot gone z) ∙ text ∙ unlisted_is_laid m place t) in
       absurd (apart 110 101 (omega arith) (sym (ap (byte_at 1) cut.2)))
-  erase_settled before here there pick (suc w) v (answers.Erased n slot gone) _ z t at h k text = absurd k
-  erase_settled before here there pick w (suc v) (answers.Nothing n slot) (answers.Erased m place lost) z t at h k text =
-      let cut = erasure_cut before here there pick w v n slot m place (codes " nothing" ++ z) (erased_tail lost t) h.0 k.0 (sym (nothing_is_laid n slot z) ∙ text ∙ erased_is_laid m place lost t) in
+  erase_settled hold held first second low lower pick (suc w) v (answers.Erased n slot gone) _ z t at h k text = absurd k
+  erase_settled hold held first second low lower pick w (suc v) (answers.Nothing n slot) (answers.Erased m place lost) z t at h k text =
+      let cut = erasure_cut hold held first second low lower pick w v n slot m place (codes " nothing" ++ z) (erased_tail lost t) h.0 k.0 (sym (nothing_is_laid n slot z) ∙ text ∙ erased_is_laid m place lost t) in
       absurd (apart 110 101 (omega arith) (ap (byte_at 1) cut.2))
-  erase_settled before here there pick w v (answers.Nothing n slot) (answers.Nothing m place) z t at h k text =
-      let cut = erasure_cut before here there pick w v n slot m place (codes " nothing" ++ z) (codes " nothing" ++ t) h.0 k.0 (sym (nothing_is_laid n slot z) ∙ text ∙ nothing_is_laid m place t) in
+  erase_settled hold held first second low lower pick w v (answers.Nothing n slot) (answers.Nothing m place) z t at h k text =
+      let cut = erasure_cut hold held first second low lower pick w v n slot m place (codes " nothing" ++ z) (codes " nothing" ++ t) h.0 k.0 (sym (nothing_is_laid n slot z) ∙ text ∙ nothing_is_laid m place t) in
       made_same answers.Nothing n slot m place cut.0 cut.1
-  erase_settled before here there pick w v (answers.Nothing n slot) (answers.NotListed m place) z t at h k text =
-      let cut = erasure_cut before here there pick w v n slot m place (codes " nothing" ++ z) (codes " notlisted" ++ t) h.0 k.0 (sym (nothing_is_laid n slot z) ∙ text ∙ unlisted_is_laid m place t) in
+  erase_settled hold held first second low lower pick w v (answers.Nothing n slot) (answers.NotListed m place) z t at h k text =
+      let cut = erasure_cut hold held first second low lower pick w v n slot m place (codes " nothing" ++ z) (codes " notlisted" ++ t) h.0 k.0 (sym (nothing_is_laid n slot z) ∙ text ∙ unlisted_is_laid m place t) in
       absurd (apart 108 104 (omega arith) (sym (ap (byte_at 4) cut.2)))
-  erase_settled before here there pick w v (answers.Nothing n slot) _ z t at h k text = absurd k
-  erase_settled before here there pick w (suc v) (answers.NotListed n slot) (answers.Erased m place lost) z t at h k text =
-      let cut = erasure_cut before here there pick w v n slot m place (codes " notlisted" ++ z) (erased_tail lost t) h.0 k.0 (sym (unlisted_is_laid n slot z) ∙ text ∙ erased_is_laid m place lost t) in
+  erase_settled hold held first second low lower pick w v (answers.Nothing n slot) _ z t at h k text = absurd k
+  erase_settled hold held first second low lower pick w (suc v) (answers.NotListed n slot) (answers.Erased m place lost) z t at h k text =
+      let cut = erasure_cut hold held first second low lower pick w v n slot m place (codes " notlisted" ++ z) (erased_tail lost t) h.0 k.0 (sym (unlisted_is_laid n slot z) ∙ text ∙ erased_is_laid m place lost t) in
       absurd (apart 110 101 (omega arith) (ap (byte_at 1) cut.2))
-  erase_settled before here there pick w v (answers.NotListed n slot) (answers.Nothing m place) z t at h k text =
-      let cut = erasure_cut before here there pick w v n slot m place (codes " notlisted" ++ z) (codes " nothing" ++ t) h.0 k.0 (sym (unlisted_is_laid n slot z) ∙ text ∙ nothing_is_laid m place t) in
+  erase_settled hold held first second low lower pick w v (answers.NotListed n slot) (answers.Nothing m place) z t at h k text =
+      let cut = erasure_cut hold held first second low lower pick w v n slot m place (codes " notlisted" ++ z) (codes " nothing" ++ t) h.0 k.0 (sym (unlisted_is_laid n slot z) ∙ text ∙ nothing_is_laid m place t) in
       absurd (apart 108 104 (omega arith) (ap (byte_at 4) cut.2))
-  erase_settled before here there pick w v (answers.NotListed n slot) (answers.NotListed m place) z t at h k text =
-      let cut = erasure_cut before here there pick w v n slot m place (codes " notlisted" ++ z) (codes " notlisted" ++ t) h.0 k.0 (sym (unlisted_is_laid n slot z) ∙ text ∙ unlisted_is_laid m place t) in
+  erase_settled hold held first second low lower pick w v (answers.NotListed n slot) (answers.NotListed m place) z t at h k text =
+      let cut = erasure_cut hold held first second low lower pick w v n slot m place (codes " notlisted" ++ z) (codes " notlisted" ++ t) h.0 k.0 (sym (unlisted_is_laid n slot z) ∙ text ∙ unlisted_is_laid m place t) in
       made_same answers.NotListed n slot m place cut.0 cut.1
-  erase_settled before here there pick w v (answers.NotListed n slot) _ z t at h k text = absurd k
-  erase_settled before here there pick w v _ y z t at h k text = absurd h
+  erase_settled hold held first second low lower pick w v (answers.NotListed n slot) _ z t at h k text = absurd k
+  erase_settled hold held first second low lower pick w v _ y z t at h k text = absurd h
 
   -- to `reload`, of which only the first letter is needed
   pub reload_settled : (src w v : ℕ) (x y : Answer) (z t : List ℕ) → w ≡ v → AnswersReload p src w x → AnswersReload q src v y

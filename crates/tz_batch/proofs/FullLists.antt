@@ -16,7 +16,7 @@ use Rattle.pin_book.proofs.LawLemmas.{some_listed}
 use Rattle.pin_book.proofs.Journals.{replays_take}
 use Rattle.tz_batch.specs.Batch.{Answered}
 use Rattle.tz_batch.specs.Laws.{writes_between}
-use Rattle.tz_batch.specs.PassedOver.{MayBeHeld, IsFull}
+use Rattle.tz_batch.specs.PassedOver.{IsHeldSlot, MayBeHeld, IsFull}
 use Rattle.tz_batch.specs.Round.{Round, list_at}
 use Rattle.tz_batch.proofs.Fronts.{front_is_listed, pushed_later}
 
@@ -139,13 +139,13 @@ module _ (round : Round) (before : List Answered) (operation : Operation) (w : �
       (came_from (list_at round round.start) (writes_between round.start v round.journal) e there)
 
   -- so is what a slot that is passed over has
-  slot_known : (slot : ℕ) → slot < round.slots → IsTrue (is_slot_listed slot (list_at round w).listed) ⊎ MayBeHeld round before operation w slot → Contains (map (λ (it : Edition). it.slot) known) slot
+  slot_known : (slot : ℕ) → slot < round.slots → IsTrue (is_slot_listed slot (list_at round w).listed) ⊎ MayBeHeld round (IsHeldSlot round before operation) w slot → Contains (map (λ (it : Edition). it.slot) known) slot
   slot_known slot inside passed =
       ⊎_elim
       (λ (listed : IsTrue (is_slot_listed slot (list_at round w).listed)).
       let there = listed_there slot (list_at round w).listed listed in
       subst (λ (k : ℕ). Contains (map (λ (it : Edition). it.slot) known) k) there.2 (slot_there known there.0 (is_known w there.0 low (omega arith) there.1)))
-      (λ (may : MayBeHeld round before operation w slot).
+      (λ (may : MayBeHeld round (IsHeldSlot round before operation) w slot).
       let front = may.1 several in
       let v = front.0 in
       let some = some_listed round.slots (take v round.journal) (omega (arith, inside)) (replays_take round.slots round.journal v replay) in
@@ -154,7 +154,7 @@ module _ (round : Round) (before : List Answered) (operation : Operation) (w : �
       passed
 
   -- a full list has no more slots than there are
-  pub full_is_small : IsFull round before operation w → round.slots ≤ length (list_at round round.start).listed + length (pushes (writes_between round.start w round.journal))
+  pub full_is_small : IsFull round (IsHeldSlot round before operation) w → round.slots ≤ length (list_at round round.start).listed + length (pushes (writes_between round.start w round.journal))
   unfolding known
   full_is_small full =
       omega (arith, covers round.slots (map (λ (it : Edition). it.slot) known) (λ slot inside. slot_known slot inside (full slot inside)), length-map known (λ (it : Edition). it.slot), length-append (list_at round round.start).listed (pushes (writes_between round.start w round.journal)))

@@ -25,11 +25,11 @@ use Rattle.tz_batch.proofs.LanePositions.{from_start}
 -- ---- where a hold began ----
 
 -- one of these operations, of the round, has the line of the hold
-record BeganIn (number : ℕ) (those : List Answered) (hold : OpenHold) : Type 0 where
-  begun : Answered
-  has : Contains those begun
-  round : begun.operation.round ≡ number
-  line : begun.operation.line ≡ hold.line
+pub record BeganIn (number : ℕ) (those : List Answered) (hold : OpenHold) : Type 0 where
+  pub begun : Answered
+  pub has : Contains those begun
+  pub round : begun.operation.round ≡ number
+  pub line : begun.operation.line ≡ hold.line
 
 -- a hold that is open after an operation was open before it, or has its line
 open_after : (line lane : ℕ) (op : Op) (holds : List OpenHold) (hold : OpenHold) → Contains (holds_after line lane op holds) hold → Contains holds hold ⊎ (line ≡ hold.line)
@@ -58,7 +58,7 @@ open_in number here holds hold =
     (λ no has. inl has)
 
 -- a hold that is open behind operations was open before them, or began at one
-began : (number : ℕ) (those : List Answered) (holds : List OpenHold) (hold : OpenHold) → Contains (fold (holds_in number) holds those) hold → Contains holds hold ⊎ BeganIn number those hold
+pub began : (number : ℕ) (those : List Answered) (holds : List OpenHold) (hold : OpenHold) → Contains (fold (holds_in number) holds those) hold → Contains holds hold ⊎ BeganIn number those hold
 began number [] holds hold has = inl has
 began number (here ∷ those) holds hold has =
     ⊎_elim
@@ -85,7 +85,7 @@ line_lower operation (o ∷ operations) (r ∷ replies) b up (suc k, low, at) =
     omega (arith, ltb-true operation.line o.line parts.0, later)
 
 -- so operations with one line are of one round
-one_round : (operations : List Operation) (replies : List Reply) (a b : Answered) → ascends stands_before operations ≡ true → Contains (each_answered operations replies) a → Contains (each_answered operations replies) b → a.operation.line ≡ b.operation.line → a.operation.round ≡ b.operation.round
+pub one_round : (operations : List Operation) (replies : List Reply) (a b : Answered) → ascends stands_before operations ≡ true → Contains (each_answered operations replies) a → Contains (each_answered operations replies) b → a.operation.line ≡ b.operation.line → a.operation.round ≡ b.operation.round
 one_round [] replies a b up (k, low, at) has same = absurd (omega (arith, low))
 one_round (o ∷ operations) [] a b up (k, low, at) has same = absurd (omega (arith, low))
 one_round (o ∷ operations) (r ∷ replies) a b up (zero, low, at) (zero, low', at') same = ap (λ (it : Answered). it.operation.round) (sym at ∙ at')

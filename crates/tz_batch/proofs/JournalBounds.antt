@@ -26,7 +26,7 @@ use Rattle.tz_batch.specs.Fitting.{FitsWord, FitsChange, FitsWrite}
 use Rattle.tz_batch.specs.Batch.{Answered, each_answered, answered, is_write_before}
 use Rattle.tz_batch.specs.Laws.{batch_of}
 use Rattle.tz_batch.specs.Run.{PlacedChange, change_told, change_told_in, changes_by, TakesFirstSlot, PassesOver, IsRun}
-use Rattle.tz_batch.specs.PassedOver.{IsPassedOver}
+use Rattle.tz_batch.specs.PassedOver.{IsHeldSlot, IsPassedOver}
 use Rattle.tz_batch.specs.Round.{round_of}
 use Rattle.tz_batch.specs.declared.answer.Answer.{Answer}
 use Rattle.tz_batch.specs.declared.answer.Answer.TheVariants as answers
@@ -324,7 +324,7 @@ module _ (script : Script) (sources : Sources) (slots : ℕ) (outcome : Outcome)
 
   -- and each slot that a push passes over
   passed_known : (number : ℕ) (before : List Answered) (operation : Operation) (w slot : ℕ) → 0 < slots
-      → IsPassedOver (round_of (batch_of script sources slots outcome) number) before operation w slot → Contains (map slot_of known) slot
+      → IsPassedOver (round_of (batch_of script sources slots outcome) number) (IsHeldSlot (round_of (batch_of script sources slots outcome) number) before operation) w slot → Contains (map slot_of known) slot
   passed_known number before operation w slot some (inl listed) = listed_known w slot some listed
   passed_known number before operation w slot some (inr may) = by_lanes (script.lanes == 1) refl
     where
@@ -334,7 +334,7 @@ module _ (script : Script) (sources : Sources) (slots : ℕ) (outcome : Outcome)
 
   -- so a push takes no great slot
   slot_low : (number : ℕ) (before : List Answered) (operation : Operation) (w slot : ℕ) → 0 < slots
-      → TakesFirstSlot (round_of (batch_of script sources slots outcome) number) before operation w slot → slot ≤ length outcome.journal + 1
+      → TakesFirstSlot (round_of (batch_of script sources slots outcome) number) (IsHeldSlot (round_of (batch_of script sources slots outcome) number) before operation) w slot → slot ≤ length outcome.journal + 1
   unfolding known
   slot_low number before operation w slot some takes =
       omega (arith, covers slot (map slot_of known) (λ other low. passed_known number before operation w other some (takes.lower other low)), length-map known slot_of, few_pushes outcome.journal)

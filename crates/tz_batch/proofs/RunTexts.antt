@@ -16,10 +16,11 @@ use Rattle.pin_book.specs.declared.write.Write.{Write}
 use Rattle.tz_batch.specs.OutcomeText.{answer_text, reply_line, outcome_text}
 use Rattle.tz_batch.specs.Batch.{Batch, Answered, each_answered, answered}
 use Rattle.tz_batch.specs.Laws.{batch_of}
-use Rattle.tz_batch.specs.Round.{round_of}
+use Rattle.tz_batch.specs.Round.{Round, round_of, position_before}
 use Rattle.tz_expand.specs.declared.compiled_zone.CompiledZone.{CompiledZone}
 use Rattle.tz_batch.specs.Finding.{FindsInfo, FindsLocal, FindsSys, FindsScan, FindsInZone, FindsByClock}
 use Rattle.tz_batch.specs.Answering.{IsRightReply, AnswersInZone}
+use Rattle.tz_batch.specs.Held.{IsHeldAs}
 use Rattle.tz_batch.specs.Run.{IsRun}
 use Rattle.tz_batch.specs.declared.answer.Answer.{Answer}
 use Rattle.tz_lookup.specs.declared.found.Found.{Found}
@@ -28,7 +29,7 @@ use Rattle.tz_batch.specs.declared.reply.Reply.{Reply}
 use Rattle.tz_batch.proofs.NumberCuts.{rest_same, number_before}
 use Rattle.tz_batch.proofs.OutcomeTexts.{FitsFront, parts_settled, replies_text, reply_laid, reply_is_laid}
 use Rattle.tz_batch.proofs.JournalBounds.{journal_few, writes_fit, replies_few, position_low}
-use Rattle.tz_batch.proofs.AnswerTexts.{AreAlike, look_settled, hold_settled, drop_settled, lookup_settled, reload_settled, erase_settled, list_settled}
+use Rattle.tz_batch.proofs.AnswerTexts.{AreAlike, HoldFronts, look_settled, hold_settled, drop_settled, lookup_settled, reload_settled, erase_settled, list_settled}
 use Rattle.tz_batch.proofs.LanePositions.{both}
 use Rattle.tz_batch.proofs.OneZone.{in_zone_settled}
 use Rattle.tz_batch.proofs.FoundOnce.{info_once, local_once, sys_once, scan_once, by_clock_once}
@@ -69,6 +70,10 @@ position_cut x y z t line low_x low_y text =
     number_before 32 x.w y.w (answer_text x.answer ++ 10 ∷ z) (answer_text y.answer ++ 10 ∷ t) (omega arith) low_x low_y
     (rest_same 64 64 behind_x behind_y (rest_same 32 32 (64 ∷ behind_x) (64 ∷ behind_y) behind))
 
+-- what is held was at the front where the hold began
+fronts_of : (round : Round) (before : List Answered) (operation : Operation) → HoldFronts round (IsHeldAs round before operation)
+fronts_of round before operation name edition held = (held.begun.reply.w, held.version)
+
 module _ (script : Script) (sources : Sources) (slots : ℕ) (a b : Outcome) (journals : a.journal ≡ b.journal) (run_a : IsRun script sources slots a) (run_b : IsRun script sources slots b) where
   abbrev batch_a : Batch
   batch_a = batch_of script sources slots a
@@ -79,14 +84,21 @@ module _ (script : Script) (sources : Sources) (slots : ℕ) (a b : Outcome) (jo
   alike : (number : ℕ) → AreAlike (round_of batch_a number) (round_of batch_b number)
   alike number = record { slots = refl; sources = refl; journal = journals; replay = run_a.replay; few = journal_few script sources slots a run_a }
 
+  -- what the operation's lane holds
+  abbrev held_in_a : ℕ → List Answered → Operation → List ℕ → Edition → Type 0
+  held_in_a number before operation = IsHeldAs (round_of batch_a number) before operation
+
+  abbrev held_in_b : ℕ → List Answered → Operation → List ℕ → Edition → Type 0
+  held_in_b number before operation = IsHeldAs (round_of batch_b number) before operation
+
   -- answers to a lookup in a zone are settled by their text, where the zone settles what is found there
-  zone_settled : (number : ℕ) (before : List Answered) (here there : Answered) (pick : Pick) (zone : List ℕ) (finds : CompiledZone → Found → Type 0) (x y : Answer) (z t : List ℕ)
+  zone_settled : (number : ℕ) (before : List Answered) (operation : Operation) (w v : ℕ) (pick : Pick) (zone : List ℕ) (finds : CompiledZone → Found → Type 0) (x y : Answer) (z t : List ℕ)
       → ((compiled : CompiledZone) (f g : Found) → finds compiled f → finds compiled g → f ≡ g)
-      → AnswersInZone (round_of batch_a number) before here pick zone finds x
-      → AnswersInZone (round_of batch_b number) before there pick zone finds y
+      → AnswersInZone (round_of batch_a number) (held_in_a number before operation) w pick zone finds x
+      → AnswersInZone (round_of batch_b number) (held_in_b number before operation) v pick zone finds y
       → answer_text x ++ z ≡ answer_text y ++ t → x ≡ y
-  zone_settled number before here there pick zone finds x y z t once h k text =
-      lookup_settled (round_of batch_a number) (round_of batch_b number) (alike number) before here there pick (λ edition. FindsInZone sources edition.src zone finds) x y z t
+  zone_settled number before operation w v pick zone finds x y z t once h k text =
+      lookup_settled (round_of batch_a number) (round_of batch_b number) (alike number) (held_in_a number before operation) (held_in_b number before operation) (fronts_of (round_of batch_a number) before operation) (fronts_of (round_of batch_b number) before operation) w v pick (λ edition. FindsInZone sources edition.src zone finds) x y z t
       (λ (e o : Edition) (f g : Found) same one two. in_zone_settled sources e.src o.src zone finds f g once same one two) h k text
 
   -- the answers to an operation are settled by their text and their position
@@ -99,22 +111,22 @@ module _ (script : Script) (sources : Sources) (slots : ℕ) (a b : Outcome) (jo
   answer_settled before line round lane (ops.Hold name) x y z t at h k text =
       hold_settled (round_of batch_a round) (round_of batch_b round) (alike round) x.w y.w x.answer y.answer at h k
   answer_settled before line round lane (ops.Drop name) x y z t at h k text =
-      drop_settled (round_of batch_a round) (round_of batch_b round) (alike round) before (both (operation_of line round lane (ops.Drop name)) x) (both (operation_of line round lane (ops.Drop name)) y) name x.answer y.answer z t h k text
+      drop_settled (round_of batch_a round) (round_of batch_b round) (alike round) (held_in_a round before (operation_of line round lane (ops.Drop name))) (held_in_b round before (operation_of line round lane (ops.Drop name))) (fronts_of (round_of batch_a round) before (operation_of line round lane (ops.Drop name))) (fronts_of (round_of batch_b round) before (operation_of line round lane (ops.Drop name))) name x.answer y.answer z t h k text
   answer_settled before line round lane (ops.Info v zone l) x y z t at h k text =
-      zone_settled round before (both (operation_of line round lane (ops.Info v zone l)) x) (both (operation_of line round lane (ops.Info v zone l)) y) v zone (λ compiled. FindsInfo compiled l) x.answer y.answer z t (info_once l) h k text
+      zone_settled round before (operation_of line round lane (ops.Info v zone l)) x.w y.w v zone (λ compiled. FindsInfo compiled l) x.answer y.answer z t (info_once l) h k text
   answer_settled before line round lane (ops.Local v zone l) x y z t at h k text =
-      zone_settled round before (both (operation_of line round lane (ops.Local v zone l)) x) (both (operation_of line round lane (ops.Local v zone l)) y) v zone (λ compiled. FindsLocal compiled l) x.answer y.answer z t (local_once l) h k text
+      zone_settled round before (operation_of line round lane (ops.Local v zone l)) x.w y.w v zone (λ compiled. FindsLocal compiled l) x.answer y.answer z t (local_once l) h k text
   answer_settled before line round lane (ops.Sys v zone l choose) x y z t at h k text =
-      zone_settled round before (both (operation_of line round lane (ops.Sys v zone l choose)) x) (both (operation_of line round lane (ops.Sys v zone l choose)) y) v zone (λ compiled. FindsSys compiled l choose) x.answer y.answer z t (sys_once l choose) h k text
+      zone_settled round before (operation_of line round lane (ops.Sys v zone l choose)) x.w y.w v zone (λ compiled. FindsSys compiled l choose) x.answer y.answer z t (sys_once l choose) h k text
   answer_settled before line round lane (ops.Scan v zone from step count) x y z t at h k text =
-      zone_settled round before (both (operation_of line round lane (ops.Scan v zone from step count)) x) (both (operation_of line round lane (ops.Scan v zone from step count)) y) v zone (λ compiled. FindsScan compiled from step count) x.answer y.answer z t (scan_once from step count) h k text
+      zone_settled round before (operation_of line round lane (ops.Scan v zone from step count)) x.w y.w v zone (λ compiled. FindsScan compiled from step count) x.answer y.answer z t (scan_once from step count) h k text
   answer_settled before line round lane (ops.Clock v conv count) x y z t at h k text =
-      lookup_settled (round_of batch_a round) (round_of batch_b round) (alike round) before (both (operation_of line round lane (ops.Clock v conv count)) x) (both (operation_of line round lane (ops.Clock v conv count)) y) v (λ edition. FindsByClock sources conv count) x.answer y.answer z t
+      lookup_settled (round_of batch_a round) (round_of batch_b round) (alike round) (held_in_a round before (operation_of line round lane (ops.Clock v conv count))) (held_in_b round before (operation_of line round lane (ops.Clock v conv count))) (fronts_of (round_of batch_a round) before (operation_of line round lane (ops.Clock v conv count))) (fronts_of (round_of batch_b round) before (operation_of line round lane (ops.Clock v conv count))) x.w y.w v (λ edition. FindsByClock sources conv count) x.answer y.answer z t
       (λ (e o : Edition) (f g : Found) same one two. by_clock_once sources conv count f g one two) h k text
   answer_settled before line round lane (ops.Reload src) x y z t at h k text =
       reload_settled (round_of batch_a round) (round_of batch_b round) (alike round) src x.w y.w x.answer y.answer z t at h k text
   answer_settled before line round lane (ops.Erase v) x y z t at h k text =
-      erase_settled (round_of batch_a round) (round_of batch_b round) (alike round) before (both (operation_of line round lane (ops.Erase v)) x) (both (operation_of line round lane (ops.Erase v)) y) v x.w y.w x.answer y.answer z t at h k text
+      erase_settled (round_of batch_a round) (round_of batch_b round) (alike round) (held_in_a round before (operation_of line round lane (ops.Erase v))) (held_in_b round before (operation_of line round lane (ops.Erase v))) (fronts_of (round_of batch_a round) before (operation_of line round lane (ops.Erase v))) (fronts_of (round_of batch_b round) before (operation_of line round lane (ops.Erase v))) (position_before (round_of batch_a round) before (operation_of line round lane (ops.Erase v))) (position_before (round_of batch_b round) before (operation_of line round lane (ops.Erase v))) v x.w y.w x.answer y.answer z t at h k text
   answer_settled before line round lane ops.List x y z t at h k text =
       list_settled (round_of batch_a round) (round_of batch_b round) (alike round) x.w y.w x.answer y.answer at h k
 

@@ -56,9 +56,9 @@ module _ (sources : Sources) where
   same (suc zero) low = refl
   same (suc (suc number)) low = absurd (omega (arith, low))
 
-  lower : (before : List Answered) (operation : Operation) (slot : ℕ) → slot < 1 → IsPassedOver first before operation 0 slot
-  lower before operation zero low = inl refl
-  lower before operation (suc slot) low = absurd (omega (arith, low))
+  lower : (is_held : ℕ → Type 0) (slot : ℕ) → slot < 1 → IsPassedOver first is_held 0 slot
+  lower is_held zero low = inl refl
+  lower is_held (suc slot) low = absurd (omega (arith, low))
 
   -- the slot of a version that is told keeps its number
   abbrev KeepsIt : ℕ → InSlot → Type 0
@@ -82,7 +82,7 @@ module _ (sources : Sources) where
         (of_version (KeepsIt 0) (record { n = 1; slot = 0 }) refl)
         (of_version (KeepsIt 1) (record { n = 2; slot = 1 }) refl);
     pushes = in_turn (of_round PassesOver) _ _ _
-        (record { lower = lower [] _; exact = λ one. cc })
+        (record { lower = lower _; exact = λ one. cc })
         tt
         tt;
   }

@@ -14,7 +14,7 @@ use Rattle.pin_book.specs.declared.write.Change.TheVariants.{Push, Erase}
 use Rattle.pin_book.specs.Replay.{Edition, allowed, is_listed, greatest_below}
 use Rattle.tz_batch.specs.Batch.{Answered, name_of_source, row_of}
 use Rattle.tz_batch.specs.Round.{Round, list_at, newest_at, position_before}
-use Rattle.tz_batch.specs.Held.{IsHeldAs, LooksInto}
+use Rattle.tz_batch.specs.Held.{IsHeldAs}
 use Rattle.tz_batch.specs.Finding.{FindsInfo, FindsLocal, FindsSys, FindsScan, FindsInZone, FindsByClock}
 use Rattle.tz_batch.specs.declared.answer.Answer.{Answer}
 use Rattle.tz_batch.specs.declared.answer.Answer.TheVariants as answers
@@ -39,11 +39,10 @@ abbrev pub AnswersHold : Round → ℕ → Answer → Type 0
 AnswersHold round w (answers.Held n slot) = IsToldAs (newest_at round w) n slot
 AnswersHold round w _ = ⊥
 
--- `drop`
-abbrev pub AnswersDrop : Round → List Answered → Answered → List ℕ → Answer → Type 0
-AnswersDrop round before here name (answers.Dropped n slot) =
-    (edition : Edition) × IsHeldAs round before here.operation name edition × IsToldAs edition n slot
-AnswersDrop round before here name _ = ⊥
+-- `drop`, where the lane holds versions by names so
+abbrev pub AnswersDrop : (List ℕ → Edition → Type 0) → List ℕ → Answer → Type 0
+AnswersDrop holds name (answers.Dropped n slot) = (edition : Edition) × holds name edition × IsToldAs edition n slot
+AnswersDrop holds name _ = ⊥
 
 -- no version is made of the source at a place: the leap text is refused with that fault, or it is accepted and the
 -- source refused
@@ -70,29 +69,28 @@ AnswersReload round src (suc w) (answers.Pushed n slot) =
 AnswersReload round src w answers.Full = IsAccepted round.sources src × ¬ (HasNameOf round w src)
 AnswersReload round src w _ = ⊥
 
--- The version behind which an erasure at a position erases: the one that is held, or the front at some position from
--- the last one of the lane in the round, or from where the round starts, up to the one that the erasure met.
-abbrev pub ErasesBehind : Round → List Answered → Answered → Pick → ℕ → Edition → Type 0
-ErasesBehind round before here Front met edition =
-    (h : ℕ) × (position_before round before here.operation ≤ h) × (h ≤ met) × (edition ≡ newest_at round h)
-ErasesBehind round before here (Held name) met edition = IsHeldAs round before here.operation name edition
+-- The version behind which an erasure erases: the one that is held, or the front at some position from the last one of the
+-- lane up to the one that the erasure met.
+abbrev pub ErasesBehind : Round → ℕ → (List ℕ → Edition → Type 0) → Pick → ℕ → Edition → Type 0
+ErasesBehind round last holds Front met edition = (h : ℕ) × (last ≤ h) × (h ≤ met) × (edition ≡ newest_at round h)
+ErasesBehind round last holds (Held name) met edition = holds name edition
 
 -- an erasure behind a version that is told so
-abbrev pub ErasesBehindTold : Round → List Answered → Answered → Pick → ℕ → ℕ → ℕ → Type 0
-ErasesBehindTold round before here pick met n slot =
-    (edition : Edition) × ErasesBehind round before here pick met edition × IsToldAs edition n slot
+abbrev pub ErasesBehindTold : Round → ℕ → (List ℕ → Edition → Type 0) → Pick → ℕ → ℕ → ℕ → Type 0
+ErasesBehindTold round last holds pick met n slot =
+    (edition : Edition) × ErasesBehind round last holds pick met edition × IsToldAs edition n slot
 
 -- `erase`
-abbrev pub AnswersErase : Round → List Answered → Answered → Pick → ℕ → Answer → Type 0
-AnswersErase round before here pick w (answers.NotListed n slot) =
-    ErasesBehindTold round before here pick w n slot × (is_listed n (list_at round w).listed ≡ false)
-AnswersErase round before here pick w (answers.Nothing n slot) =
-    ErasesBehindTold round before here pick w n slot × IsTrue (is_listed n (list_at round w).listed)
+abbrev pub AnswersErase : Round → ℕ → (List ℕ → Edition → Type 0) → Pick → ℕ → Answer → Type 0
+AnswersErase round last holds pick w (answers.NotListed n slot) =
+    ErasesBehindTold round last holds pick w n slot × (is_listed n (list_at round w).listed ≡ false)
+AnswersErase round last holds pick w (answers.Nothing n slot) =
+    ErasesBehindTold round last holds pick w n slot × IsTrue (is_listed n (list_at round w).listed)
     × (greatest_below n (list_at round w).listed ≡ 0)
-AnswersErase round before here pick (suc w) (answers.Erased n slot gone) =
-    ErasesBehindTold round before here pick w n slot × IsTrue (allowed (list_at round w) (Erase n gone))
+AnswersErase round last holds pick (suc w) (answers.Erased n slot gone) =
+    ErasesBehindTold round last holds pick w n slot × IsTrue (allowed (list_at round w) (Erase n gone))
     × IsChangeAfter round w (Erase n gone)
-AnswersErase round before here pick w _ = ⊥
+AnswersErase round last holds pick w _ = ⊥
 
 -- `list`
 abbrev pub AnswersList : Round → ℕ → Answer → Type 0
@@ -100,35 +98,44 @@ AnswersList round w (answers.Listed listing) =
     (listing.w ≡ w) × (listing.rows ≡ map (row_of round.sources) (list_at round w).listed)
 AnswersList round w _ = ⊥
 
+-- the version that a lookup looks into: the one at the front at its position, or the one that is held
+abbrev pub LooksInto : Round → (List ℕ → Edition → Type 0) → ℕ → Pick → Edition → Type 0
+LooksInto round holds w Front edition = edition ≡ newest_at round w
+LooksInto round holds w (Held name) edition = holds name edition
+
 -- a lookup in the version that is picked
-abbrev pub AnswersLookup : Round → List Answered → Answered → Pick → (Edition → Found → Type 0) → Answer → Type 0
-AnswersLookup round before here pick finds (answers.On n slot found) =
-    (edition : Edition) × LooksInto round before here pick edition × IsToldAs edition n slot × finds edition found
-AnswersLookup round before here pick finds _ = ⊥
+abbrev pub AnswersLookup : Round → (List ℕ → Edition → Type 0) → ℕ → Pick → (Edition → Found → Type 0) → Answer → Type 0
+AnswersLookup round holds w pick finds (answers.On n slot found) =
+    (edition : Edition) × LooksInto round holds w pick edition × IsToldAs edition n slot × finds edition found
+AnswersLookup round holds w pick finds _ = ⊥
 
 -- the same in a zone of that name
-abbrev pub AnswersInZone : Round → List Answered → Answered → Pick → List ℕ → (CompiledZone → Found → Type 0) → Answer → Type 0
-AnswersInZone round before here pick name finds answer =
-    AnswersLookup round before here pick (λ edition. FindsInZone round.sources edition.src name finds) answer
+abbrev pub AnswersInZone : Round → (List ℕ → Edition → Type 0) → ℕ → Pick → List ℕ → (CompiledZone → Found → Type 0) → Answer → Type 0
+AnswersInZone round holds w pick name finds answer =
+    AnswersLookup round holds w pick (λ edition. FindsInZone round.sources edition.src name finds) answer
 
--- what one thread answers to an operation at its reply's position, where these operations stand before it
+-- What one thread answers to an operation at a position, in a lane whose last position was this one and which holds
+-- versions by names so.
+abbrev pub Answers : Round → ℕ → (List ℕ → Edition → Type 0) → Op → ℕ → Answer → Type 0
+Answers round last holds ops.Look w answer = AnswersLook round w answer
+Answers round last holds (ops.Hold name) w answer = AnswersHold round w answer
+Answers round last holds (ops.Drop name) w answer = AnswersDrop holds name answer
+Answers round last holds (ops.Info v zone t) w answer =
+    AnswersInZone round holds w v zone (λ compiled. FindsInfo compiled t) answer
+Answers round last holds (ops.Local v zone l) w answer =
+    AnswersInZone round holds w v zone (λ compiled. FindsLocal compiled l) answer
+Answers round last holds (ops.Sys v zone l choose) w answer =
+    AnswersInZone round holds w v zone (λ compiled. FindsSys compiled l choose) answer
+Answers round last holds (ops.Scan v zone from step count) w answer =
+    AnswersInZone round holds w v zone (λ compiled. FindsScan compiled from step count) answer
+Answers round last holds (ops.Clock v conv x) w answer =
+    AnswersLookup round holds w v (λ edition. FindsByClock round.sources conv x) answer
+Answers round last holds (ops.Reload src) w answer = AnswersReload round src w answer
+Answers round last holds (ops.Erase v) w answer = AnswersErase round last holds v w answer
+Answers round last holds ops.List w answer = AnswersList round w answer
+
+-- the same of a reply, where these operations stand before its own
 abbrev pub IsRightReply : Round → List Answered → Answered → Type 0
-IsRightReply round before here = by_op here.operation.op here.reply.w here.reply.answer
-  where
-    by_op : Op → ℕ → Answer → Type 0
-    by_op ops.Look w answer = AnswersLook round w answer
-    by_op (ops.Hold name) w answer = AnswersHold round w answer
-    by_op (ops.Drop name) w answer = AnswersDrop round before here name answer
-    by_op (ops.Info v zone t) w answer =
-        AnswersInZone round before here v zone (λ compiled. FindsInfo compiled t) answer
-    by_op (ops.Local v zone l) w answer =
-        AnswersInZone round before here v zone (λ compiled. FindsLocal compiled l) answer
-    by_op (ops.Sys v zone l choose) w answer =
-        AnswersInZone round before here v zone (λ compiled. FindsSys compiled l choose) answer
-    by_op (ops.Scan v zone from step count) w answer =
-        AnswersInZone round before here v zone (λ compiled. FindsScan compiled from step count) answer
-    by_op (ops.Clock v conv x) w answer =
-        AnswersLookup round before here v (λ edition. FindsByClock round.sources conv x) answer
-    by_op (ops.Reload src) w answer = AnswersReload round src w answer
-    by_op (ops.Erase v) w answer = AnswersErase round before here v w answer
-    by_op ops.List w answer = AnswersList round w answer
+IsRightReply round before here =
+    Answers round (position_before round before here.operation) (IsHeldAs round before here.operation)
+    here.operation.op here.reply.w here.reply.answer

@@ -1,10 +1,8 @@
--- Which versions are held, and which version an operation looks into.
+-- Which versions are held.
 use Rattle.std.specs.Prelude.{◌≡◌, ℕ, ◌==◌, if◌then◌else◌, List, [], fold, Contains}
 use Rattle.tz_script.specs.Holds.{holds_after}
 use Rattle.tz_script.specs.declared.holds.OpenHold.{OpenHold}
 use Rattle.tz_script.specs.declared.operation.Operation.{Operation}
-use Rattle.tz_script.specs.declared.operation.Pick.{Pick}
-use Rattle.tz_script.specs.declared.operation.Pick.TheVariants.{Front, Held}
 use Rattle.pin_book.specs.Replay.{Edition}
 use Rattle.tz_batch.specs.Batch.{Answered}
 use Rattle.tz_batch.specs.Round.{Round, newest_at}
@@ -33,8 +31,3 @@ pub record IsHeldAs (round : Round) (before : List Answered) (operation : Operat
   pub lane : open_hold.lane ≡ operation.lane
   pub name_is : open_hold.name ≡ name
   pub version : edition ≡ newest_at round begun.reply.w
-
--- the version that an operation at a position looks into: the one at the front there, or the one that is held
-abbrev pub LooksInto : Round → List Answered → Answered → Pick → Edition → Type 0
-LooksInto round before here Front edition = edition ≡ newest_at round here.reply.w
-LooksInto round before here (Held name) edition = IsHeldAs round before here.operation name edition

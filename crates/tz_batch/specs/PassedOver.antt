@@ -18,17 +18,17 @@ pub record IsHeldSlot (round : Round) (before : List Answered) (operation : Oper
 abbrev pub WasFrontSlot : Round → ℕ → ℕ → Type 0
 WasFrontSlot round w slot = (v : ℕ) × (round.start ≤ v) × (v ≤ w) × ((newest_at round v).slot ≡ slot)
 
--- A slot that a version may be kept in: with one lane that is told by its open holds, and with more a hold of another
--- lane may have begun at any position of the round.
-abbrev pub MayBeHeld : Round → List Answered → Operation → ℕ → ℕ → Type 0
-MayBeHeld round before operation w slot =
-    (round.lanes ≡ 1 → IsHeldSlot round before operation slot) × (¬ (round.lanes ≡ 1) → WasFrontSlot round w slot)
+-- A slot that a version may be kept in, where an open hold is known in these slots: with one lane that is told by its open
+-- holds, and with more a hold of another lane may have begun at any position of the round.
+abbrev pub MayBeHeld : Round → (ℕ → Type 0) → ℕ → ℕ → Type 0
+MayBeHeld round is_held w slot =
+    (round.lanes ≡ 1 → is_held slot) × (¬ (round.lanes ≡ 1) → WasFrontSlot round w slot)
 
 -- the slot is passed over at a position: it is listed, or may be held
-abbrev pub IsPassedOver : Round → List Answered → Operation → ℕ → ℕ → Type 0
-IsPassedOver round before operation w slot =
-    IsTrue (is_slot_listed slot (list_at round w).listed) ⊎ MayBeHeld round before operation w slot
+abbrev pub IsPassedOver : Round → (ℕ → Type 0) → ℕ → ℕ → Type 0
+IsPassedOver round is_held w slot =
+    IsTrue (is_slot_listed slot (list_at round w).listed) ⊎ MayBeHeld round is_held w slot
 
 -- every slot of the list is passed over
-abbrev pub IsFull : Round → List Answered → Operation → ℕ → Type 0
-IsFull round before operation w = (slot : ℕ) → slot < round.slots → IsPassedOver round before operation w slot
+abbrev pub IsFull : Round → (ℕ → Type 0) → ℕ → Type 0
+IsFull round is_held w = (slot : ℕ) → slot < round.slots → IsPassedOver round is_held w slot

@@ -15,7 +15,7 @@ use Rattle.pin_book.specs.Sequence.{AreCounted}
 use Rattle.tz_batch.specs.Batch.{Batch, Answered, answered}
 use Rattle.tz_batch.specs.Round.{Round, round_of, list_at, position_before, InTurn}
 use Rattle.tz_batch.specs.Answering.{IsRightReply}
-use Rattle.tz_batch.specs.PassedOver.{IsPassedOver, IsFull}
+use Rattle.tz_batch.specs.PassedOver.{IsHeldSlot, IsPassedOver, IsFull}
 use Rattle.tz_batch.specs.declared.answer.Answer.{Answer}
 use Rattle.tz_batch.specs.declared.answer.Answer.TheVariants as answers
 use Rattle.tz_batch.specs.declared.outcome.Outcome.{Outcome}
@@ -107,26 +107,31 @@ versions_told (answers.Listed listing) =
     map (λ (row : Listed). record { n = row.n; slot = row.slot }) listing.rows
 versions_told (answers.On n slot found) = record { n = n; slot = slot } ∷ []
 
--- each slot that a reply tells keeps the number that it tells, at the reply's position
+-- each slot that an answer tells keeps the number that it tells, at its position
+abbrev pub TellsKept : Round → ℕ → Answer → Type 0
+TellsKept round w answer =
+    (told : InSlot) → Contains (versions_told answer) told → slice_get (list_at round w).kept told.slot ≡ Some told.n
+
+-- the same of a reply
 abbrev pub SlotsKeep : Round → List Answered → Answered → Type 0
-SlotsKeep round before here =
-    (told : InSlot) → Contains (versions_told here.reply.answer) told
-    → slice_get (list_at round here.reply.w).kept told.slot ≡ Some told.n
+SlotsKeep round before here = TellsKept round here.reply.w here.reply.answer
 
 -- Every slot below the one that a push takes is passed over in the list that the push met. With one lane a push is made
 -- wherever a slot isn't passed over.
-pub record TakesFirstSlot (round : Round) (before : List Answered) (operation : Operation) (met slot : ℕ) : Type 0 where
-  pub lower : (other : ℕ) → other < slot → IsPassedOver round before operation met other
-  pub exact : round.lanes ≡ 1 → ¬ (IsFull round before operation met)
+pub record TakesFirstSlot (round : Round) (is_held : ℕ → Type 0) (met slot : ℕ) : Type 0 where
+  pub lower : (other : ℕ) → other < slot → IsPassedOver round is_held met other
+  pub exact : round.lanes ≡ 1 → ¬ (IsFull round is_held met)
 
 -- a push takes a slot so, and the list is full only where every slot is passed over
+abbrev pub PassesSlots : Round → (ℕ → Type 0) → ℕ → Answer → Type 0
+PassesSlots round is_held w (answers.Pushed n slot) = TakesFirstSlot round is_held (w - 1) slot
+PassesSlots round is_held w answers.Full = IsFull round is_held w
+PassesSlots round is_held w _ = Unit {0}
+
+-- the same of a reply, by the holds that are open in its round
 abbrev pub PassesOver : Round → List Answered → Answered → Type 0
-PassesOver round before here = by_answer here.reply.answer
-  where
-    by_answer : Answer → Type 0
-    by_answer (answers.Pushed n slot) = TakesFirstSlot round before here.operation (here.reply.w - 1) slot
-    by_answer answers.Full = IsFull round before here.operation here.reply.w
-    by_answer _ = Unit {0}
+PassesOver round before here =
+    PassesSlots round (IsHeldSlot round before here.operation) here.reply.w here.reply.answer
 
 -- ---- the run ----
 

@@ -7,7 +7,7 @@ use Rattle.tz_script.specs.declared.operation.Op.TheVariants as ops
 use Rattle.pin_book.specs.declared.write.Change.TheVariants.{Push}
 use Rattle.tz_batch.specs.Batch.{Batch, Answered}
 use Rattle.tz_batch.specs.Round.{round_of}
-use Rattle.tz_batch.specs.PassedOver.{IsFull}
+use Rattle.tz_batch.specs.PassedOver.{IsHeldSlot, IsFull}
 use Rattle.tz_batch.specs.Run.{EachInTurn, TakesFirstSlot, PassesOver}
 use Rattle.tz_batch.specs.declared.answer.Answer.{Answer}
 use Rattle.tz_batch.specs.declared.answer.Answer.TheVariants as answers
@@ -28,12 +28,12 @@ full_by_reload now after line round lane (ops.Reload src) served = (src, served)
 full_by_reload now after line round lane _ served = absurd served
 
 -- a push takes the first slot that isn't taken
-takes_first : (batch : Batch) (before : List Answered) (here : Answered) (now after : Session) → Turn batch before here now after → (src n slot : ℕ) → ServesReload now src (answers.Pushed n slot) after → TakesFirstSlot (round_of batch here.operation.round) before here.operation (here.reply.w - 1) slot
+takes_first : (batch : Batch) (before : List Answered) (here : Answered) (now after : Session) → Turn batch before here now after → (src n slot : ℕ) → ServesReload now src (answers.Pushed n slot) after → TakesFirstSlot (round_of batch here.operation.round) (IsHeldSlot (round_of batch here.operation.round) before here.operation) (here.reply.w - 1) slot
 takes_first batch before here now after turn src n slot served =
     let met : here.reply.w - 1 ≡ length now.journal =
     omega (arith, turn.position, ap (λ (s : Session). length s.journal) served.4, length_push now.journal (write_of (Push n src slot) now.journal)) in
     let inside : slot < batch.slots = subst (λ (slots : ℕ). slot < slots) turn.slots served.2.inside in
-    subst (λ (w : ℕ). TakesFirstSlot (round_of batch here.operation.round) before here.operation w slot) (sym met)
+    subst (λ (w : ℕ). TakesFirstSlot (round_of batch here.operation.round) (IsHeldSlot (round_of batch here.operation.round) before here.operation) w slot) (sym met)
     (record {
       lower = λ other low. passed_over batch before here now after turn other (served.2.lower other low);
       exact = λ one full. both_ways (is_slot_taken now slot) served.2.free (taken_slot batch before here now after turn slot (full slot inside));
@@ -46,7 +46,7 @@ push_passes batch before line round lane op told w (answers.Pushed n slot) now a
     takes_first batch before _ now after turn reload.0 n slot reload.1
 push_passes batch before line round lane op told w answers.Full now after turn =
     let reload = full_by_reload now after line round lane op turn.served in
-    subst (λ (met : ℕ). IsFull (round_of batch round) before (record { line = line; round = round; lane = lane; op = op }) met) (sym (position_kept batch before _ now after turn reload.1.3))
+    subst (λ (met : ℕ). IsFull (round_of batch round) (IsHeldSlot (round_of batch round) before (record { line = line; round = round; lane = lane; op = op })) met) (sym (position_kept batch before _ now after turn reload.1.3))
     (filled batch before _ now after turn reload.1.2)
 push_passes batch before line round lane op told w _ now after turn = tt
 

@@ -12,9 +12,9 @@ use Rattle.pin_book.specs.declared.write.Change.TheVariants.{Push, Erase}
 use Rattle.pin_book.specs.declared.write.Write.{Write}
 use Rattle.pin_book.specs.Replay.{Edition, ListState, allowed, is_listed, greatest_below}
 use Rattle.tz_batch.specs.Batch.{Batch, Answered, name_of_source, row_of}
-use Rattle.tz_batch.specs.Round.{round_of}
-use Rattle.tz_batch.specs.Held.{IsHeldAs, LooksInto}
-use Rattle.tz_batch.specs.Answering.{IsToldAs, IsChangeAfter, IsRefusedWith, IsAccepted, HasNameOf, ErasesBehind, AnswersLook, AnswersHold, AnswersDrop, AnswersReload, AnswersErase, AnswersList, AnswersLookup, IsRightReply}
+use Rattle.tz_batch.specs.Round.{round_of, position_before}
+use Rattle.tz_batch.specs.Held.{IsHeldAs}
+use Rattle.tz_batch.specs.Answering.{IsToldAs, IsChangeAfter, IsRefusedWith, IsAccepted, HasNameOf, ErasesBehind, LooksInto, AnswersLook, AnswersHold, AnswersDrop, AnswersReload, AnswersErase, AnswersList, AnswersLookup, IsRightReply}
 use Rattle.tz_batch.specs.Finding.{FindsInfo, FindsLocal, FindsSys, FindsScan, FindsInZone, FindsByClock}
 use Rattle.tz_batch.specs.Run.{EachInTurn}
 use Rattle.tz_batch.specs.declared.answer.Answer.{Answer}
@@ -44,12 +44,12 @@ module _ (batch : Batch) (before : List Answered) (here : Answered) (now after :
   newest same = newest_told batch before here now after turn ∙ ap newest_now same
 
   -- what is picked is looked into
-  looks_into : after ≡ now → (pick : Pick) (edition : Edition) → Picks now pick edition → LooksInto (round_of batch here.operation.round) before here pick edition
+  looks_into : after ≡ now → (pick : Pick) (edition : Edition) → Picks now pick edition → LooksInto (round_of batch here.operation.round) (IsHeldAs (round_of batch here.operation.round) before here.operation) here.reply.w pick edition
   looks_into same Front edition picks = picks ∙ sym (newest same)
   looks_into same (Held name) edition picks = held name edition picks
 
   -- or erased behind
-  erases_behind : (pick : Pick) (edition : Edition) → Picks now pick edition → ErasesBehind (round_of batch here.operation.round) before here pick (length now.journal) edition
+  erases_behind : (pick : Pick) (edition : Edition) → Picks now pick edition → ErasesBehind (round_of batch here.operation.round) (position_before (round_of batch here.operation.round) before here.operation) (IsHeldAs (round_of batch here.operation.round) before here.operation) pick (length now.journal) edition
   erases_behind Front edition picks =
       (length now.journal, turn.low, omega arith, picks ∙ sym (newest_met batch before here now after turn))
   erases_behind (Held name) edition picks = held name edition picks
@@ -97,18 +97,18 @@ module _ (batch : Batch) (before : List Answered) (here : Answered) (now after :
   right_hold line name _ served = absurd served
 
   -- `drop`
-  right_drop : (name : List ℕ) (answer : Answer) → ServesDrop now name answer after → AnswersDrop (round_of batch here.operation.round) before here name answer
+  right_drop : (name : List ℕ) (answer : Answer) → ServesDrop now name answer after → AnswersDrop (IsHeldAs (round_of batch here.operation.round) before here.operation) name answer
   right_drop name (answers.Dropped n slot) served = (served.0, held name served.0 served.1, served.2)
   right_drop name _ served = absurd served
 
   -- a lookup
-  right_lookup : (pick : Pick) (finds finds' : Edition → Found → Type 0) → ((edition : Edition) (found : Found) → finds edition found → finds' edition found) → (answer : Answer) → ServesLookup now pick finds answer after → AnswersLookup (round_of batch here.operation.round) before here pick finds' answer
+  right_lookup : (pick : Pick) (finds finds' : Edition → Found → Type 0) → ((edition : Edition) (found : Found) → finds edition found → finds' edition found) → (answer : Answer) → ServesLookup now pick finds answer after → AnswersLookup (round_of batch here.operation.round) (IsHeldAs (round_of batch here.operation.round) before here.operation) here.reply.w pick finds' answer
   right_lookup pick finds finds' also (answers.On n slot found) served =
       (served.0, looks_into served.4 pick served.0 served.1, served.2, also served.0 found served.3)
   right_lookup pick finds finds' also _ served = absurd served
 
   -- a lookup in a zone
-  right_in_zone : (pick : Pick) (name : List ℕ) (finds : CompiledZone → Found → Type 0) (answer : Answer) → ServesLookup now pick (λ edition. FindsInZone now.sources edition.src name finds) answer after → AnswersLookup (round_of batch here.operation.round) before here pick (λ edition. FindsInZone batch.sources edition.src name finds) answer
+  right_in_zone : (pick : Pick) (name : List ℕ) (finds : CompiledZone → Found → Type 0) (answer : Answer) → ServesLookup now pick (λ edition. FindsInZone now.sources edition.src name finds) answer after → AnswersLookup (round_of batch here.operation.round) (IsHeldAs (round_of batch here.operation.round) before here.operation) here.reply.w pick (λ edition. FindsInZone batch.sources edition.src name finds) answer
   right_in_zone pick name finds answer served =
       right_lookup pick (λ edition. FindsInZone now.sources edition.src name finds) (λ edition. FindsInZone batch.sources edition.src name finds)
       (λ edition found. subst (λ (sources : Sources). FindsInZone sources edition.src name finds found) turn.sources)
@@ -129,15 +129,15 @@ module _ (batch : Batch) (before : List Answered) (here : Answered) (now after :
   right_reload src _ served = absurd served
 
   -- `erase`
-  right_erase : (pick : Pick) (answer : Answer) → ServesErase now pick answer after → AnswersErase (round_of batch here.operation.round) before here pick here.reply.w answer
+  right_erase : (pick : Pick) (answer : Answer) → ServesErase now pick answer after → AnswersErase (round_of batch here.operation.round) (position_before (round_of batch here.operation.round) before here.operation) (IsHeldAs (round_of batch here.operation.round) before here.operation) pick here.reply.w answer
   right_erase pick (answers.NotListed n slot) served =
-      subst (λ (w : ℕ). AnswersErase (round_of batch here.operation.round) before here pick w (answers.NotListed n slot)) (sym (position_kept batch before here now after turn served.4))
+      subst (λ (w : ℕ). AnswersErase (round_of batch here.operation.round) (position_before (round_of batch here.operation.round) before here.operation) (IsHeldAs (round_of batch here.operation.round) before here.operation) pick w (answers.NotListed n slot)) (sym (position_kept batch before here now after turn served.4))
       ((served.0, erases_behind pick served.0 served.1, served.2), subst (λ (state : ListState). is_listed n state.listed ≡ false) (sym turn.list_met) served.3)
   right_erase pick (answers.Nothing n slot) served =
-      subst (λ (w : ℕ). AnswersErase (round_of batch here.operation.round) before here pick w (answers.Nothing n slot)) (sym (position_kept batch before here now after turn served.5))
+      subst (λ (w : ℕ). AnswersErase (round_of batch here.operation.round) (position_before (round_of batch here.operation.round) before here.operation) (IsHeldAs (round_of batch here.operation.round) before here.operation) pick w (answers.Nothing n slot)) (sym (position_kept batch before here now after turn served.5))
       ((served.0, erases_behind pick served.0 served.1, served.2), subst (λ (state : ListState). IsTrue (is_listed n state.listed)) (sym turn.list_met) served.3, subst (λ (state : ListState). greatest_below n state.listed ≡ 0) (sym turn.list_met) served.4)
   right_erase pick (answers.Erased n slot gone) served =
-      subst (λ (w : ℕ). AnswersErase (round_of batch here.operation.round) before here pick w (answers.Erased n slot gone)) (sym (one_more (Erase n gone) served.4))
+      subst (λ (w : ℕ). AnswersErase (round_of batch here.operation.round) (position_before (round_of batch here.operation.round) before here.operation) (IsHeldAs (round_of batch here.operation.round) before here.operation) pick w (answers.Erased n slot gone)) (sym (one_more (Erase n gone) served.4))
       ((served.0, erases_behind pick served.0 served.1, served.2), subst (λ (state : ListState). IsTrue (allowed state (Erase n gone))) (sym turn.list_met) served.3, is_change (Erase n gone) served.4)
   right_erase pick _ served = absurd served
 

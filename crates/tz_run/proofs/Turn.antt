@@ -5,7 +5,7 @@ use Rattle.pin_book.specs.declared.write.Write.{Write}
 use Rattle.pin_book.specs.Replay.{ListState, front_of, is_slot_listed}
 use Rattle.tz_batch.specs.Batch.{Batch, Answered, answered}
 use Rattle.tz_batch.specs.Round.{Round, round_of, position_before}
-use Rattle.tz_batch.specs.PassedOver.{MayBeHeld, IsPassedOver, IsFull}
+use Rattle.tz_batch.specs.PassedOver.{IsHeldSlot, MayBeHeld, IsPassedOver, IsFull}
 use Rattle.tz_run.specs.Session.{Session, in_round, list_now, newest_now, is_slot_held, is_slot_taken, IsFilled}
 use Rattle.tz_run.specs.Serving.{Serves}
 use Rattle.tz_run.proofs.Served.{list_in, newest_in, IsServed}
@@ -74,7 +74,7 @@ module _ (batch : Batch) (before : List Answered) (here : Answered) (now after :
   position_kept same = turn.position ∙ ap (λ (s : Session). length s.journal) same
 
   -- a slot that is taken is passed over
-  pub passed_over : (slot : ℕ) → is_slot_taken now slot ≡ true → IsPassedOver (round_of batch here.operation.round) before here.operation (length now.journal) slot
+  pub passed_over : (slot : ℕ) → is_slot_taken now slot ≡ true → IsPassedOver (round_of batch here.operation.round) (IsHeldSlot (round_of batch here.operation.round) before here.operation) (length now.journal) slot
   passed_over slot taken =
       ⊎_elim
       (λ (listed : is_slot_listed slot (list_now now).listed ≡ true).
@@ -83,15 +83,15 @@ module _ (batch : Batch) (before : List Answered) (here : Answered) (now after :
       (or_cases (is_slot_listed slot (list_now now).listed) (is_slot_held slot now.holds) taken)
 
   -- and the other way round
-  pub taken_slot : (slot : ℕ) → IsPassedOver (round_of batch here.operation.round) before here.operation (length now.journal) slot → is_slot_taken now slot ≡ true
+  pub taken_slot : (slot : ℕ) → IsPassedOver (round_of batch here.operation.round) (IsHeldSlot (round_of batch here.operation.round) before here.operation) (length now.journal) slot → is_slot_taken now slot ≡ true
   taken_slot slot passed =
       ⊎_elim
       (λ (listed : IsTrue (is_slot_listed slot (list_in batch (length now.journal)).listed)).
       or_left (is_slot_listed slot (list_now now).listed) (is_slot_held slot now.holds) (subst (λ (state : ListState). is_slot_listed slot state.listed ≡ true) turn.list_met listed))
-      (λ (may : MayBeHeld (round_of batch here.operation.round) before here.operation (length now.journal) slot).
+      (λ (may : MayBeHeld (round_of batch here.operation.round) (IsHeldSlot (round_of batch here.operation.round) before here.operation) (length now.journal) slot).
       or_right (is_slot_listed slot (list_now now).listed) (is_slot_held slot now.holds) (slot_held batch before here.operation now turn.mirrors slot (may.0 turn.one_lane)))
       passed
 
   -- where every slot is taken, the list is full
-  pub filled : IsFilled now → IsFull (round_of batch here.operation.round) before here.operation (length now.journal)
+  pub filled : IsFilled now → IsFull (round_of batch here.operation.round) (IsHeldSlot (round_of batch here.operation.round) before here.operation) (length now.journal)
   filled all slot inside = passed_over slot (all slot (subst (λ (slots : ℕ). slot < slots) (sym turn.slots) inside))

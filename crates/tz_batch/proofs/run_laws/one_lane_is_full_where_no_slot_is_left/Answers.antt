@@ -15,7 +15,7 @@ returns-clause-full c script sources slots outcome run one before later here is 
     let P : Answer → Type 0 = λ answer. PassesOver round before (both here.operation (record { line = here.reply.line; w = w; answer = answer })) in
     ⊎_elim
     (λ (listed : IsTrue (is_slot_listed slot (list_at round w).listed)). inl listed)
-    (λ (may : MayBeHeld round before here.operation w slot). inr (may.0 one))
+    (λ (may : MayBeHeld round (IsHeldSlot round before here.operation) w slot). inr (may.0 one))
     (subst P full (run.pushes before later here is) slot inside)
 
 pub returns-clause-pushed : goal.returns-clause-pushed
