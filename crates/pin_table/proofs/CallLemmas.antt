@@ -9,7 +9,7 @@ use Rattle.pin_book.specs.declared.payload.Payload.{Ghosts}
 use Rattle.pin_book.specs.declared.write.Write.{Write}
 use Rattle.pin_book.specs.Replay.{front_number}
 use Rattle.pin_core.specs.declared.view.View.{View}
-use Rattle.pin_core.specs.Step.{gave_turn}
+use Rattle.pin_core.specs.Step.{loaded, gave_turn}
 use Rattle.pin_table.specs.declared.answers.Erased.{Erased}
 use Rattle.pin_table.specs.declared.answers.EraseWhy.{EraseWhy}
 use Rattle.pin_table.specs.declared.answers.Listing.{Listing}
@@ -118,6 +118,9 @@ module _ {P : Type 0} (plan : Plan P) (by : ℕ) (v later : View) where
 
   pub meeting_keeps_writes : (holder : ℕ) → MeetsTurn plan by v later holder → KeepsWrites v later
   meeting_keeps_writes holder h = writes_kept v _ later h.view refl refl
+
+pub load_keeps : (v later : View) (journal : List Write) → later ≡ loaded journal v → take (length v.seen) journal ≡ v.seen → KeepsPins v later
+load_keeps v later journal is grows = pins_kept v (loaded journal v) later is refl refl refl refl grows
 
 pub wait_keeps : (v w : View) → WaitsForTurn v w → KeepsPins v w
 wait_keeps v w h = pins_kept v _ w h.view refl refl refl refl (take-length v.seen)

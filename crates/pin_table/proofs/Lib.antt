@@ -2,6 +2,7 @@ pub mod CarriedLemmas
 pub mod OpeningLemmas
 pub mod NumberLemmas
 pub mod KeptLemmas
+pub mod MeetLemmas
 pub mod PartingLemmas
 pub mod ClosingLemmas
 pub mod SourceLemmas

@@ -1,5 +1,5 @@
 -- A split and a join keep the rule.
-use Rattle.std.proofs.Common.{subst, arith, length, ◌≡◌, ◌≢◌, ℕ, ◌^◌, ◌<◌, ◌≤◌, List, [], ◌∷◌, ◌++◌, map, set, sym, ap, ◌∙◌, false, Some}
+use Rattle.std.proofs.Common.{subst, arith, length, ◌≡◌, ◌≢◌, ℕ, ◌^◌, ◌<◌, ◌≤◌, List, [], ◌∷◌, ◌++◌, map, set, refl, sym, ap, ◌∙◌, false, Some}
 use Rattle.std.specs.Prelude.{nat_lt}
 use Rattle.std.proofs.lemmas.Bool.{cond-true, cond-false, lt-ltb, le-ltb}
 use Rattle.std.proofs.lemmas.List.{map-append}
@@ -8,9 +8,9 @@ use Rattle.pin_table.specs.declared.position.Position.{Position}
 use Rattle.pin_table.specs.Position.{IsAfter}
 use mathlib.Core.Option.{some}
 use lib.ListN.{get_elem?}
-use lib.Seq.{map-set}
-use Rattle.atomic_table.specs.Table.{State, Splits, Joins}
-use Rattle.atomic_table.proofs.Lists.{set_else}
+use lib.Seq.{map-set, set-get_or}
+use Rattle.atomic_table.specs.Table.{State, Me, keeps, Allows, Splits, Joins}
+use Rattle.atomic_table.proofs.Lists.{set_else, set_again}
 use Rattle.pin_core.specs.declared.view.View.{View}
 use Rattle.pin_core.specs.declared.view.Role.TheVariants as roles
 use Rattle.pin_core.specs.Core.{allowance_of, has_number, spent}
@@ -82,11 +82,22 @@ module _ {P H : Type 0} (home : P → H) (source : P → ℕ) (name_of : H → �
         };
       }
 
-  -- no seat of a table has an allowance past the room
-  pub too_much : (id : ℕ) (v : Sitting P) (s : State (Cell P H) (Sitting P)) → KeepsList home source name_of plan s → get_elem? s.views id ≡ some v → 2 ^ 32 ≤ v.core.allowance → ⊥
-  too_much id v s h at much =
+  -- a seat's allowance fits its type
+  pub allowance_small : (id : ℕ) (v : Sitting P) (s : State (Cell P H) (Sitting P)) → KeepsList home source name_of plan s → get_elem? s.views id ≡ some v → v.core.allowance < 2 ^ 32
+  allowance_small id v s h at =
       let lawful = kept_lawful home source name_of plan s h in let room = lawful.room in let size = (kept_sizes home source name_of plan s h).2 in let few = h.sizes.few_writes in
       let mine = term_le allowance_of h.core.views id v.core (kept_view home source name_of plan s h id v at) in omega arith
+
+  -- a load that changes nothing tells so
+  pub weighs : (slots id word : ℕ) (m : Me (Cell P H) (Sitting P)) → Allows (KeepsList home source name_of plan) slots id m word (λ n. n) (λ n m'. (m' ≡ m) × (m.0.core.allowance < 2 ^ 32))
+  weighs slots id word m s h deep at fits = (
+    m.0,
+    keeps,
+    tt,
+    subst (λ (ws : List ℕ). KeepsList home source name_of plan record { words = ws; homes = s.homes; views = set s.views id m.0 }) (sym (set-get_or s.words word 0))
+        (subst (λ (vs : List (Sitting P)). KeepsList home source name_of plan record { words = s.words; homes = s.homes; views = vs }) (sym (set_again s.views id m.0 at)) h),
+    (refl, allowance_small id m.0 s h at),
+  )
 
 -- the later of two positions is that of the longer journal
 pub later_position : (slots others : ℕ) (v w : View) (mine its : Position) → others ≡ slots → IsAfter slots v.seen mine → IsAfter others w.seen its → mine.w < its.w → IsAfter slots (taken_in v w).seen its

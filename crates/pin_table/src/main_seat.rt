@@ -8,7 +8,7 @@ ghost use Rattle.pin_table.specs.Position.{IsAfter, slots_of_plan};
 use crate::exchange::Carried;
 use crate::hand::Hand;
 use crate::no_reader::NoReader;
-use crate::parting::{meet, no_overflow, part};
+use crate::parting::{meet, part};
 use crate::position::Position;
 use crate::reader::Reader;
 use crate::rule::Chair;
@@ -39,6 +39,7 @@ impl<P: Payload> Main<P> {
     ghost use Rattle.pin_table.specs.Main.{main_view};
     ghost use Rattle.pin_table.specs.Reader.{reader_view};
     ghost use Rattle.pin_table.specs.Numbers.{SplitsLeast};
+    ghost use Rattle.pin_table.specs.Parting.{AreFronts};
     ghost use Rattle.pin_table.specs.Table.{plan, IsMainOf};
 
     /// Makes the main of a new table, whose first seat this is.
@@ -95,11 +96,12 @@ impl<P: Payload> Main<P> {
     }
 
     /// Takes a reader of this table that holds no handle back in, with all that it had seen and the writes that it may
-    /// still make.
+    /// still make. What one of the two had seen is a front part of what the other had.
     pub fn join(&mut self, reader: Reader<P>)
         requires own { IsMainOf reader.table.now self.old }
         requires released { (reader_view reader).entries ≡ [] }
         ensures joined { main_view self.new ≡ taken_in (main_view self.old) (reader_view reader.entry) }
+        ensures alike { AreFronts (main_view self.old).seen (reader_view reader.entry).seen }
         ensures own { IsMainOf reader.entry.table.now self.new }
     {
         let Reader {
@@ -112,10 +114,7 @@ impl<P: Payload> Main<P> {
         } = reader;
         meet(table, &mut self.seat, seat);
         self.has[number as usize] = true;
-        self.allowance = match self.allowance.checked_add(allowance) {
-            Some(all) => all,
-            None => no_overflow(table, &mut self.seat),
-        };
+        self.allowance += allowance;
         if self.seen.w < seen.w {
             self.seen = seen;
         }

@@ -5,7 +5,7 @@
 ghost use Rattle.std.specs.Prelude.{◌≡◌, ◌^◌, ◌<◌, ◌≤◌, [], false};
 ghost use Rattle.pin_core.specs.Core.{has_number};
 ghost use Rattle.pin_core.specs.declared.view.Role.TheVariants as roles;
-ghost use Rattle.pin_table.specs.Parting.{left_sitting, right_sitting, joined_sitting};
+ghost use Rattle.pin_table.specs.Parting.{left_sitting, right_sitting, joined_sitting, AreFronts};
 ghost use Rattle.pin_table.specs.Table.{IsAt};
 
 use crate::layout::FRONT_WORD;
@@ -48,10 +48,10 @@ impl<P, W: Parting> Split<Sitting<P>> for Parts<W> {
 pub struct Meets;
 
 impl<P> Join<Sitting<P>> for Meets {
-    ghost use Rattle.pin_table.specs.Parting.{joined_sitting};
+    ghost use Rattle.pin_table.specs.Parting.{met_sitting};
     ghost use Rattle.pin_table.specs.Seat.{spent_sitting};
 
-    ghost both = { joined_sitting };
+    ghost both = { met_sitting };
 
     ghost spent = { spent_sitting };
 }
@@ -94,7 +94,8 @@ pub(crate) fn part<P: Payload>(
     part_as::<Brand, P>(table, seat, number, writes)
 }
 
-/// Takes a reader's seat, which carries nothing, into the main's.
+/// Takes a reader's seat, which carries nothing, into the main's. What one of the two had seen is a front part of what the
+/// other had.
 pub(crate) fn meet<P: Payload>(table: &PinTable<P>, seat: &mut Chair<P>, other: Chair<P>)
     requires own { IsAt table.now seat.old × IsAt table.now other }
     requires main { seat.old.me.0.core.role ≡ roles.Main }
@@ -102,22 +103,27 @@ pub(crate) fn meet<P: Payload>(table: &PinTable<P>, seat: &mut Chair<P>, other: 
     requires carried { other.me.1 ≡ [] }
     ensures same { (seat.new.table_id ≡ seat.old.table_id) × (seat.new.id ≡ seat.old.id) }
     ensures both { seat.new.me ≡ (joined_sitting seat.old.me.0 other.me.0, seat.old.me.1) }
+    ensures alike { AreFronts seat.old.me.0.core.seen other.me.0.core.seen }
+    ensures small { seat.new.me.0.core.allowance < 2 ^ 32 }
 {
     table.base.shared.join_seat::<Meets>(seat, other);
+    weigh(table, seat);
 }
 
-/// A load that never comes: no table has a seat that may make or hand out so many writes.
-pub struct Never;
+/// A load that tells of a seat how many writes it may make or hand out: the rule knows that they fit the type.
+pub struct Weighs;
 
-impl<S, V> Play<S, V> for Never {
-    ghost then = { λ _ _ _ _. ⊥ };
+impl<S, P> Play<S, Sitting<P>> for Weighs {
+    ghost use Rattle.std.specs.Prelude.{◌≡◌, ◌<◌, ◌^◌};
+
+    ghost then = { λ st m n m'. (m' ≡ m) × (m.0.core.allowance < 2 ^ 32) };
 }
 
-/// Shows that the main's allowance fits its type. The rule says so at each step, and no call of this is ever made.
-pub(crate) fn no_overflow<P: Payload>(table: &PinTable<P>, seat: &mut Chair<P>) -> !
+/// Shows that the seat's allowance fits its type.
+fn weigh<P: Payload>(table: &PinTable<P>, seat: &mut Chair<P>)
     requires own { IsAt table.now seat.old }
-    requires much { 2 ^ 32 ≤ seat.old.me.0.core.allowance }
+    ensures same { (seat.new.table_id ≡ seat.old.table_id) × (seat.new.id ≡ seat.old.id) × (seat.new.me ≡ seat.old.me) }
+    ensures small { seat.old.me.0.core.allowance < 2 ^ 32 }
 {
-    table.base.shared.load::<Never>(seat, FRONT_WORD);
-    unreachable!()
+    table.base.shared.load::<Weighs>(seat, FRONT_WORD);
 }

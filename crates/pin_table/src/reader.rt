@@ -40,11 +40,13 @@ pub struct Reader<'t, P: Payload> {
 }
 
 impl<'t, P: Payload> Reader<'t, P> {
+    ghost use Rattle.pin_table.specs.Kept.{KeepsHandles};
     ghost use Rattle.pin_table.specs.Reader.{Looks};
 
     /// Loads the front word, and returns the front that it shows.
     pub fn look(&mut self) -> Position
-        ensures { Looks self.old self.new result }
+        ensures looks { Looks self.old self.new result }
+        ensures handles { KeepsHandles P.home P.source self.old self.new }
     {
         let found = self.hand.load(self.table, self.number);
         self.seen = unpack_front(found);

@@ -19,7 +19,7 @@ invariant_of-self g c =
       long = length-set old.has reader.number true ∙ old.long;
       numbers = λ number. let long = old.long in let small = reader.small in subst (λ v. (0 < has_number number v) ↔ (get_or (set old.has reader.number true) number false ≡ true)) (sym core)
           (marks_back old.has old.seat.me.0.core.numbers reader.hand.seat.me.0.core.numbers reader.number reader.reader.1 (omega arith) old.numbers number);
-      allowed = c.in-Some.ensures.1 ∙ ((λ i. old.allowed i + reader.allowed i) ∙ sym (ap (λ v. v.allowance) core));
+      allowed = (λ i. old.allowed i + reader.allowed i) ∙ sym (ap (λ v. v.allowance) core);
       position = subst (λ m. IsAfter (slots_of_plan m.0.plan) m.0.core.seen reader.seen) (sym both)
           (later_position (slots_of_plan old.seat.me.0.plan) reader.table.now.slots old.seat.me.0.core reader.hand.seat.me.0.core old.seen reader.seen (reader.table.now.made.0 ∙ sym (ap slots_of_plan c.requires.own.plan_is)) old.position reader.position c.if-self-seen.true);
     }
@@ -32,7 +32,7 @@ invariant_of-self-else-self-seen g c =
       long = length-set old.has reader.number true ∙ old.long;
       numbers = λ number. let long = old.long in let small = reader.small in subst (λ v. (0 < has_number number v) ↔ (get_or (set old.has reader.number true) number false ≡ true)) (sym core)
           (marks_back old.has old.seat.me.0.core.numbers reader.hand.seat.me.0.core.numbers reader.number reader.reader.1 (omega arith) old.numbers number);
-      allowed = c.in-Some.ensures.1 ∙ ((λ i. old.allowed i + reader.allowed i) ∙ sym (ap (λ v. v.allowance) core));
+      allowed = (λ i. old.allowed i + reader.allowed i) ∙ sym (ap (λ v. v.allowance) core);
       position = subst (λ m. IsAfter (slots_of_plan m.0.plan) m.0.core.seen old.seen) (sym both)
           (same_position (slots_of_plan old.seat.me.0.plan) reader.table.now.slots old.seat.me.0.core reader.hand.seat.me.0.core old.seen reader.seen old.position reader.position c.if-self-seen.false);
     }

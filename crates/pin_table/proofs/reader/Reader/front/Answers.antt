@@ -12,4 +12,4 @@ loop-handle-preserved g c = let missed = c.try_pin.ensures.missed c.in_default.i
 pub returns-in-Some-clause-handles : goal.returns-in-Some-clause-handles
 returns-in-Some-clause-handles g c handle made =
     pin_keeps g.P.Payload.home g.P.Payload.source c.look.new.self c.loop-handle.self c.try_pin.new.self c.in-Some.handle c.loop-handle.invariant.0 c.in-Some.ensures.pinned handle
-    (look_keeps g.P.Payload.home g.P.Payload.source c.args.self.now c.look.new.self c.look.result c.look.ensures handle made)
+    (look_keeps g.P.Payload.home g.P.Payload.source c.args.self.now c.look.new.self c.look.result c.look.ensures.looks handle made)

@@ -28,12 +28,12 @@ unpin-found-requires-clause-there g c κs within =
 pub unreachable-requires : goal.unreachable-requires
 unreachable-requires g c =
     let old = c.args.self.now in let now = c.look-front.new.self in let v = now.hand.seat.me.0.core in let slot = c.handle.inside.slot in let w = c.handle.inside.position in
-    not_missing v.entries slot w (subst (λ h. Contains v.entries (pin_of h)) (sym c.handle.view_is) (subst (λ es. Contains es (pin_of c.args.handle)) (sym (ap (λ (x : View). x.entries) c.look-front.ensures.view)) c.requires.made.pinned))
+    not_missing v.entries slot w (subst (λ h. Contains v.entries (pin_of h)) (sym c.handle.view_is) (subst (λ es. Contains es (pin_of c.args.handle)) (sym (ap (λ (x : View). x.entries) c.look-front.ensures.looks.view)) c.requires.made.pinned))
     (ap (position (stands_at slot w)) (sym (c.as_slice.ensures.value ∙ now.pins)) ∙ sym c.place_among.ensures ∙ c.in_default.is)
 
 pub returns-clause-released : goal.returns-clause-released
 returns-clause-released g c =
-    let old = c.args.self.now in let now = c.look-front.new.self in let v = now.hand.seat.me.0.core in let looks = c.look-front.ensures in let how = plan old.table.now in
+    let old = c.args.self.now in let now = c.look-front.new.self in let v = now.hand.seat.me.0.core in let looks = c.look-front.ensures.looks in let how = plan old.table.now in
     let made = c.requires.made in let e : Entry = pin_of c.args.handle in let view = ap (λ w. w.core) c.unpin-found.ensures.unpinned in let at = c.in-Some.place in
     let slot = c.handle.inside.slot in let w = c.handle.inside.position in
     let found = found_at (plan now.table.now).slots v.seen v.entries slot w at now.handles (ap (position (stands_at slot w)) (sym (c.as_slice.ensures.value ∙ now.pins)) ∙ sym c.place_among.ensures ∙ c.in-Some.is) in
