@@ -2,11 +2,12 @@
 ghost use Rattle.std.specs.Prelude.{◌≡◌, ◌+◌, ◌<◌, ◌↔◌, ℕ, length, Err, IfOk, IfErr, OnOk, OnErr};
 ghost use Rattle.std.specs.Arc.{arc_value};
 ghost use Rattle.tz_types.specs.declared.fault.Fault.{Fault};
+ghost use Rattle.pin_table.specs.Kept.{KeepsHandles};
 ghost use Rattle.pin_table.specs.Reader.{reader_view};
 ghost use Rattle.pin_table.specs.Table.{plan};
 ghost use Rattle.tz_version.specs.Refusal.{RefusesSource};
 ghost use Rattle.tz_version.specs.Release.{IsVersionOf};
-ghost use Rattle.tz_list.specs.Reload.{LacksVersion, Reloads, ReloadKeeps};
+ghost use Rattle.tz_list.specs.Reload.{release_home, release_source, LacksVersion, Reloads, ReloadKeeps};
 
 use crate::{ListReader, ReloadError, TzdbList};
 use pin_table::{PushWhy, Pushed};
@@ -76,6 +77,7 @@ impl TzdbList {
         ensures reloads { Reloads (plan self.now.table) self.now.sources src reader.old.number (reader_view reader.old) (reader_view reader.new) result }
         ensures text { (fault : Fault) → ¬ (result ≡ Err ReloadError.NoMemory) → (result ≡ Err (ReloadError.Text fault)) ↔ RefusesSource self.now.sources src fault }
         ensures keeps { ReloadKeeps (reader_view reader.old) (reader_view reader.new) }
+        ensures handles { KeepsHandles release_home release_source reader.old reader.new }
         ensures spends_one { OnOk result ((reader_view reader.new).allowance + 1 ≡ (reader_view reader.old).allowance) }
         ensures spends_none { OnErr result ((reader_view reader.new).allowance ≡ (reader_view reader.old).allowance) }
         ensures table { reader.new.table.now ≡ reader.old.table.now }
