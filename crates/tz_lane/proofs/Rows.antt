@@ -1,6 +1,5 @@
 -- The rows of a listing, as the list's versions with the names of their sources.
-use Rattle.std.proofs.Common.{◌≡◌, ℕ, zero, suc, ◌+◌, ◌-◌, ◌≤◌, ◌<◌, true, List, [], ◌∷◌, length, map, get_or, take, Contains, refl, sym, ap, ap₂, subst, ◌∙◌, arith}
-use Rattle.std.proofs.Math.Seq.{take-length}
+use Rattle.std.proofs.Common.{◌≡◌, ℕ, suc, ◌+◌, ◌-◌, ◌<◌, true, List, [], ◌∷◌, length, map, Contains, refl, sym, ap, ap₂, ◌∙◌, arith}
 use Rattle.std.proofs.lemmas.List.{length-map, get_or-map}
 use Rattle.pin_book.specs.declared.listed.Listed.{Listed}
 use Rattle.pin_book.specs.declared.write.Write.{Write}
@@ -10,11 +9,11 @@ use Rattle.pin_book.specs.Pushes.{pushes}
 use Rattle.pin_book.proofs.LawLemmas.{stands_for}
 use Rattle.pin_book.proofs.ReplayLemmas.{replay_orderly}
 use Rattle.pin_book.proofs.SourceLemmas.{listed_source}
-use Rattle.pin_table.specs.Sources.{sources, source_of}
+use Rattle.pin_table.specs.Sources.{sources}
 use Rattle.pin_table.proofs.SourceLemmas.{source_at}
 use Rattle.tz_version.specs.declared.sources.Sources.{Sources}
 use Rattle.tz_version.specs.Release.{version_name}
-use Rattle.tz_batch.specs.Batch.{name_of_source, row_of}
+use Rattle.tz_batch.specs.Batch.{row_of}
 
 -- each listed version has the name of its source
 listed_name : (home : Sources) (slots : ℕ) (journal : List Write) (e : Edition) → 0 < slots → replays slots journal ≡ true → Contains (state_after slots journal).listed e

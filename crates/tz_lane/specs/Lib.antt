@@ -1,2 +1,10 @@
 pub mod Meeting
+pub mod Counting
+pub mod Holding
+pub mod Serving
+pub mod Lane
+pub mod Parts
 pub mod Pins
+pub mod HoldPlaces
+pub mod LaneLookup
+pub mod Changing

@@ -1,11 +1,14 @@
 //! Operations that only read the list as it stands: `look` and `list`.
 ghost use Rattle.std.specs.Prelude.{◌≡◌, ◌+◌, ◌<◌, ◌≤◌, [], ℕ, IfOk};
+ghost use Rattle.pin_table.specs.Kept.{KeepsHandles};
 ghost use Rattle.pin_table.specs.Reader.{reader_view};
 ghost use Rattle.pin_table.specs.Table.{plan};
 ghost use Rattle.tz_version.specs.declared.sources.Sources.{Sources as DeclaredSources};
 ghost use Rattle.tz_batch.specs.Answering.{AnswersLook, AnswersList};
-ghost use Rattle.tz_list.specs.Reload.{release_home};
-ghost use Rattle.tz_lane.specs.Meeting.{lane_round, Meets};
+ghost use Rattle.tz_batch.specs.Run.{TellsKept};
+ghost use Rattle.tz_list.specs.Reload.{release_home, release_source};
+ghost use Rattle.tz_lane.specs.Counting.{Counts};
+ghost use Rattle.tz_lane.specs.Meeting.{lane_round, Meets, MeetsQuietly};
 
 use crate::told::Told;
 use pin_book::Listed;
@@ -19,10 +22,14 @@ use tz_types::{Items, NoMemory};
 pub fn look(reader: &mut ListReader<'_>) -> Told
     ensures meets { Meets (plan reader.old.table.now).slots (reader_view reader.old) [] (reader_view reader.new) result.w }
     ensures answer { (sources : DeclaredSources) (begun : ℕ) → AnswersLook (lane_round (plan reader.old.table.now) sources begun (reader_view reader.new)) result.w result.answer }
+    ensures kept { (sources : DeclaredSources) (begun : ℕ) → TellsKept (lane_round (plan reader.old.table.now) sources begun (reader_view reader.new)) result.w result.answer }
     ensures loads { (reader_view reader.new).loads ≡ (reader_view reader.old).loads + 1 }
     ensures taken { (reader_view reader.new).taken ≡ (reader_view reader.old).taken }
+    ensures counts { Counts (reader_view reader.old) (reader_view reader.new) 1 0 }
     ensures entries { (reader_view reader.new).entries ≡ (reader_view reader.old).entries }
+    ensures handles { KeepsHandles release_home release_source reader.old reader.new }
     ensures table { reader.new.table.now ≡ reader.old.table.now }
+    ensures number { reader.new.number ≡ reader.old.number }
 {
     let position = reader.look();
     Told {
@@ -49,10 +56,15 @@ fn copied_rows(alloc: Global, rows: &[Listed]) -> Result<Items<Listed>, NoMemory
 pub fn list<R: Wait>(rt: &R, alloc: Global, reader: &mut ListReader<'_>) -> Result<Told, NoMemory>
     ensures meets { IfOk result (λ told. Meets (plan reader.old.table.now).slots (reader_view reader.old) [] (reader_view reader.new) told.w) }
     ensures answer { IfOk result (λ told. (begun : ℕ) → AnswersList (lane_round (plan reader.old.table.now) (release_home (plan reader.old.table.now).first) begun (reader_view reader.new)) told.w told.answer) }
+    ensures kept { IfOk result (λ told. (sources : DeclaredSources) (begun : ℕ) → TellsKept (lane_round (plan reader.old.table.now) sources begun (reader_view reader.new)) told.w told.answer) }
+    ensures quiet { MeetsQuietly (reader_view reader.old) (reader_view reader.new) }
     ensures loads { (reader_view reader.new).loads ≡ (reader_view reader.old).loads }
     ensures taken { (reader_view reader.new).taken ≡ (reader_view reader.old).taken + 1 }
+    ensures counts { Counts (reader_view reader.old) (reader_view reader.new) 0 1 }
     ensures entries { (reader_view reader.new).entries ≡ (reader_view reader.old).entries }
+    ensures handles { KeepsHandles release_home release_source reader.old reader.new }
     ensures table { reader.new.table.now ≡ reader.old.table.now }
+    ensures number { reader.new.number ≡ reader.old.number }
 {
     let listing = reader.list(rt);
     let rows = copied_rows(alloc, listing.rows.as_slice())?;
