@@ -1,0 +1,12 @@
+pub mod Lists
+pub mod Sums
+pub mod Rising
+pub mod LaneHolds
+pub mod Told
+pub mod Written
+pub mod Turns
+pub mod Lanes
+pub mod OutAndBack
+pub mod Jobs
+pub mod Backs
+pub mod Assembly

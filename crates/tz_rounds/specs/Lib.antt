@@ -1,0 +1,4 @@
+pub mod Rounds
+pub mod Sending
+pub mod Jobs
+pub mod Backs
