@@ -1,11 +1,10 @@
--- How the operations of a script follow one another, and that they have one lane so far.
-use Rattle.std.proofs.Common.{◌≡◌, ℕ, ◌<◌, ◌≤◌, nat_le, nat_lt, Bool, true, ◌&&◌, List, [], ◌∷◌, ◌++◌, Some, IsTrue, refl, sym, ap, ◌∙◌, arith}
+-- How the operations of a script follow one another.
+use Rattle.std.proofs.Common.{◌≡◌, ℕ, ◌<◌, ◌≤◌, nat_le, nat_lt, Bool, true, ◌&&◌, List, [], ◌∷◌, ◌++◌, IsTrue, refl, sym, ap, ◌∙◌, arith}
 use Rattle.std.specs.List.{list_all}
 use Rattle.std.proofs.lemmas.Bool.{and_parts}
 use Rattle.std.proofs.lemmas.List.{append_assoc}
 use Rattle.tz_types.specs.Order.{ascends, ascends_after}
-use Rattle.tz_script.specs.Inside.{stands_before, all_stand_before, is_no_later, RoundsDontFall, IsOrderly}
-use Rattle.tz_script.specs.declared.limit.TheConstants.{MOST_LANES}
+use Rattle.tz_script.specs.Inside.{stands_before, all_stand_before, is_no_later, RoundsDontFall}
 use Rattle.tz_script.specs.declared.operation.Operation.{Operation}
 
 both_hold : (a b : Bool) → a ≡ true → b ≡ true → (a && b) ≡ true
@@ -78,10 +77,3 @@ rounds_before operations before later here up is = all_before is_no_later rounds
 pub lines_rise : (operations before middle later : List Operation) (a b : Operation) → IsTrue (ascends stands_before operations) → operations ≡ before ++ a ∷ middle ++ b ∷ later → a.line < b.line
 lines_rise operations before middle later a b up is =
     from_lt a.line b.line (in_order stands_before lines_carry operations before middle later a b up is)
-
--- there is one lane, as long as the limit is 1
-pub one_lane : (lanes rounds : ℕ) (operations : List Operation) → IsOrderly (Some lanes) rounds operations → lanes ≡ 1
-one_lane lanes rounds operations orderly = only_one lanes orderly.lanes_in
-  where
-    only_one : (lanes : ℕ) → IsTrue (nat_le 1 lanes && nat_le lanes MOST_LANES) → lanes ≡ 1
-    only_one lanes inside = grind arith

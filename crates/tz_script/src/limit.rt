@@ -6,9 +6,8 @@ pub const LONGEST_LINE: usize = 512;
 /// How many bytes the name of a hold may have.
 pub const LONGEST_HOLD_NAME: usize = 16;
 
-/// How many lanes a script may have. Scripts of one lane are run so far; 16 lanes come with lanes that run in threads of
-/// their own.
-pub const MOST_LANES: u32 = 1;
+/// How many lanes a script may have.
+pub const MOST_LANES: u32 = 16;
 
 /// How many rounds a script may have.
 pub const MOST_ROUNDS: u32 = 1_024;

@@ -152,7 +152,7 @@ fn read_whole(alloc: Global, text: &[u8], sources: u32) -> Result<Script, Script
 /// The script of a text of at most 4,194,304 bytes, where there are so many texts to reload.
 ///
 /// Words are separated by spaces, tabs and carriage returns, `#` begins a comment, and blank lines say nothing. The
-/// first line that isn't blank is `lanes N`, where N is 1 so far. Each later line is `round`, which begins a round, or
+/// first line that isn't blank is `lanes N`, where N is from 1 to 16. Each later line is `round`, which begins a round, or
 /// `LANE OP` and the operands of the operation: `look`, `hold H`, `drop H`, `info V ZONE T`, `local V ZONE L`,
 /// `sys V ZONE L CHOICE`, `scan V ZONE FROM STEP COUNT`, `clock V CONV X`, `reload SRC`, `erase V` and `list`. V is
 /// `front` or the name of a hold. Holds belong to their lane and round.

@@ -9,7 +9,7 @@ ghost use Rattle.tz_script.specs.Size.{AreSized};
 use crate::operation::Operation;
 use tz_types::Items;
 
-/// A script: how many lanes it has, one so far, how many rounds, at most 1,024, and its operations in the order of their
+/// A script: how many lanes it has, at most 16, how many rounds, at most 1,024, and its operations in the order of their
 /// lines, at most 65,536, of which at most 4,096 are reloads or erasures. Each operation has a lane and a round from 1
 /// on, and rounds don't fall from one operation to the next. In each round each lane begins without an open hold, may do
 /// what it does, and ends without one.

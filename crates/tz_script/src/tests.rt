@@ -40,8 +40,8 @@ fn refuses_scripts(rt: HostRuntime) {
         ("", 1, 8),
         ("\n \t\r\n# no word\n", 1, 8),
         ("lanes 0\n", 1, 8),
-        ("lanes 2\n", 1, 8),
-        ("lanes 16\n", 1, 8),
+        ("lanes 17\n", 1, 8),
+        ("lanes 016\n", 1, 8),
         ("lanes 01\n", 1, 8),
         ("lanes\n", 1, 8),
         ("lanes 1 1\n", 1, 8),
@@ -72,6 +72,8 @@ fn refuses_scripts(rt: HostRuntime) {
         ("lanes 1\nround\n1 info a Z 0\n", 3, 5),
         ("lanes 1\nround\n1 erase a\n", 3, 5),
         ("lanes 1\nround\n2 look\n", 3, 8),
+        ("lanes 16\nround\n17 look\n", 3, 8),
+        ("lanes 2\nround\n1 hold a\n2 drop a\n", 4, 5),
         ("lanes 1\nround\n0 look\n", 3, 8),
         ("lanes 1\nround\n+1 look\n", 3, 8),
         ("lanes 1\nround\n00000000001 look\n", 3, 8),
@@ -147,6 +149,7 @@ fn bytes_of_lines(rt: HostRuntime) -> Result<(), Fail> {
     refuses(&rt, rt.alloc(), b"lanes 1\nround\n\x0b\n", 3, 1);
     refuses(&rt, rt.alloc(), b"lanes 1\nround\n1 hold \xc3\xa9\n", 3, 1);
     reads(&rt, rt.alloc(), b"lanes 1 #\0\n", 1, 0, 0);
+    reads(&rt, rt.alloc(), b"lanes 16\nround\n16 look\n", 16, 1, 1);
     reads(
         &rt,
         rt.alloc(),
