@@ -116,26 +116,26 @@ AnswersInZone round holds w pick name finds answer =
 
 -- What one thread answers to an operation at a position, in a lane whose last position was this one and which holds
 -- versions by names so.
-abbrev pub Answers : Round → ℕ → (List ℕ → Edition → Type 0) → Op → ℕ → Answer → Type 0
-Answers round last holds ops.Look w answer = AnswersLook round w answer
-Answers round last holds (ops.Hold name) w answer = AnswersHold round w answer
-Answers round last holds (ops.Drop name) w answer = AnswersDrop holds name answer
-Answers round last holds (ops.Info v zone t) w answer =
+abbrev pub AnswersOp : Round → ℕ → (List ℕ → Edition → Type 0) → Op → ℕ → Answer → Type 0
+AnswersOp round last holds ops.Look w answer = AnswersLook round w answer
+AnswersOp round last holds (ops.Hold name) w answer = AnswersHold round w answer
+AnswersOp round last holds (ops.Drop name) w answer = AnswersDrop holds name answer
+AnswersOp round last holds (ops.Info v zone t) w answer =
     AnswersInZone round holds w v zone (λ compiled. FindsInfo compiled t) answer
-Answers round last holds (ops.Local v zone l) w answer =
+AnswersOp round last holds (ops.Local v zone l) w answer =
     AnswersInZone round holds w v zone (λ compiled. FindsLocal compiled l) answer
-Answers round last holds (ops.Sys v zone l choose) w answer =
+AnswersOp round last holds (ops.Sys v zone l choose) w answer =
     AnswersInZone round holds w v zone (λ compiled. FindsSys compiled l choose) answer
-Answers round last holds (ops.Scan v zone from step count) w answer =
+AnswersOp round last holds (ops.Scan v zone from step count) w answer =
     AnswersInZone round holds w v zone (λ compiled. FindsScan compiled from step count) answer
-Answers round last holds (ops.Clock v conv x) w answer =
+AnswersOp round last holds (ops.Clock v conv x) w answer =
     AnswersLookup round holds w v (λ edition. FindsByClock round.sources conv x) answer
-Answers round last holds (ops.Reload src) w answer = AnswersReload round src w answer
-Answers round last holds (ops.Erase v) w answer = AnswersErase round last holds v w answer
-Answers round last holds ops.List w answer = AnswersList round w answer
+AnswersOp round last holds (ops.Reload src) w answer = AnswersReload round src w answer
+AnswersOp round last holds (ops.Erase v) w answer = AnswersErase round last holds v w answer
+AnswersOp round last holds ops.List w answer = AnswersList round w answer
 
 -- the same of a reply, where these operations stand before its own
 abbrev pub IsRightReply : Round → List Answered → Answered → Type 0
 IsRightReply round before here =
-    Answers round (position_before round before here.operation) (IsHeldAs round before here.operation)
+    AnswersOp round (position_before round before here.operation) (IsHeldAs round before here.operation)
     here.operation.op here.reply.w here.reply.answer

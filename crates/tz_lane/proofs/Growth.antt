@@ -16,7 +16,7 @@ use Rattle.tz_batch.specs.Batch.{Answered, name_of_source, row_of}
 use Rattle.tz_batch.specs.Round.{Round, list_at, newest_at, is_beside, position_before}
 use Rattle.tz_batch.specs.Held.{IsHeldAs}
 use Rattle.tz_batch.specs.PassedOver.{IsHeldSlot, WasFrontSlot, IsPassedOver}
-use Rattle.tz_batch.specs.Answering.{IsToldAs, IsChangeAfter, AnswersLook, AnswersHold, AnswersDrop, HasNameOf, AnswersReload, ErasesBehind, ErasesBehindTold, AnswersErase, AnswersList, LooksInto, AnswersLookup, Answers}
+use Rattle.tz_batch.specs.Answering.{IsToldAs, IsChangeAfter, AnswersLook, AnswersHold, AnswersDrop, HasNameOf, AnswersReload, ErasesBehind, ErasesBehindTold, AnswersErase, AnswersList, LooksInto, AnswersLookup, AnswersOp}
 use Rattle.tz_batch.specs.Run.{TellsKept, HasPosition, TakesFirstSlot, PassesSlots}
 use Rattle.tz_batch.specs.declared.answer.Answer.{Answer}
 use Rattle.tz_batch.specs.declared.answer.Answer.TheVariants as answers
@@ -163,7 +163,7 @@ module _ (p : Round) (journal : List Write) (seen end : ℕ) (grows : take (leng
     grow_hold w (answers.Held n slot) low right = grow_told w n slot low right
     grow_hold w _ low right = absurd right
 
-    grow_answer : (op : Op) (w : ℕ) (answer : Answer) → w ≤ length p.journal → Answers p last holds op w answer → Answers grown last' holds' op w answer
+    grow_answer : (op : Op) (w : ℕ) (answer : Answer) → w ≤ length p.journal → AnswersOp p last holds op w answer → AnswersOp grown last' holds' op w answer
     grow_answer ops.Look w answer low right = grow_look w answer low right
     grow_answer (ops.Hold name) w answer low right = grow_hold w answer low right
     grow_answer (ops.Drop name) w answer low right = grow_drop name answer right
@@ -228,9 +228,9 @@ newest_stays p q goes w low =
 
 -- An answer stays right, where the lane's last position is no later and all that was held is held.
 pub answer_grows : (p q : Round) → GoesOn p q → (last last' : ℕ) (holds holds' : List ℕ → Edition → Type 0) → last' ≤ last → Implies holds holds'
-    → (op : Op) (w : ℕ) (answer : Answer) → w ≤ length p.journal → Answers p last holds op w answer → Answers q last' holds' op w answer
+    → (op : Op) (w : ℕ) (answer : Answer) → w ≤ length p.journal → AnswersOp p last holds op w answer → AnswersOp q last' holds' op w answer
 answer_grows p q goes last last' holds holds' less implied op w answer low right =
-    subst (λ (round : Round). Answers round last' holds' op w answer) (sym (is_grown p q goes))
+    subst (λ (round : Round). AnswersOp round last' holds' op w answer) (sym (is_grown p q goes))
     (grow_answer p q.journal q.seen q.end goes.grows last last' holds holds' less implied op w answer low right)
 
 -- Slots that are told keep their numbers.

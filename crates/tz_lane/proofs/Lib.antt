@@ -23,4 +23,3 @@ pub mod FrontErased
 pub mod HeldLess
 pub mod NoneMade
 pub mod RoundParts
-pub mod Changes

@@ -15,7 +15,7 @@ use Rattle.tz_script.specs.declared.operation.Op.TheVariants as ops
 use Rattle.tz_script.specs.declared.operation.Pick.{Pick}
 use Rattle.tz_version.specs.declared.sources.Sources.{Sources}
 use Rattle.tz_version.specs.Release.{Release}
-use Rattle.tz_batch.specs.Answering.{LooksInto, AnswersLookup, Answers}
+use Rattle.tz_batch.specs.Answering.{LooksInto, AnswersLookup, AnswersOp}
 use Rattle.tz_batch.specs.Round.{Round, newest_at}
 use Rattle.tz_batch.specs.Run.{InSlot, versions_told, TellsKept}
 use Rattle.tz_batch.specs.declared.answer.Answer.{Answer}
@@ -78,26 +78,3 @@ on_front_keeps round op w (answers.On n slot found) some replay is =
     let part : List Write = take w round.journal in
     one_told (state_after round.slots part) n slot (front_keeps round.slots part n slot some (replays_take round.slots round.journal w replay) is.0)
 on_front_keeps round op w _ some replay is = absurd is
-
--- ---- answers by the round ----
-
--- a lookup in the version that was at the front at a position, where that is the version that is picked
-on_picked : (round : Round) (holds : List ℕ → Edition → Type 0) (w : ℕ) (pick : Pick) (op : Op) (position : ℕ) (answer : Answer) → LooksInto round holds w pick (newest_at round position)
-    → AnswersOnFrontAt round op position answer → AnswersLookup round holds w pick (λ edition. FindsFor op round.sources edition.src) answer
-on_picked round holds w pick op position (answers.On n slot found) looks is = (newest_at round position, looks, is.0, is.1)
-on_picked round holds w pick op position _ looks is = absurd is
-
--- the answer is right to the lookup
-pub lookup_answers : (round : Round) (last : ℕ) (holds : List ℕ → Edition → Type 0) (op : Op) (w position : ℕ) (answer : Answer) → IsTrue (is_lookup op)
-    → LooksInto round holds w (pick_asked op) (newest_at round position) → AnswersOnFrontAt round op position answer → Answers round last holds op w answer
-lookup_answers round last holds (ops.Info v zone t) w position answer is looks found = on_picked round holds w v (ops.Info v zone t) position answer looks found
-lookup_answers round last holds (ops.Local v zone l) w position answer is looks found = on_picked round holds w v (ops.Local v zone l) position answer looks found
-lookup_answers round last holds (ops.Sys v zone l choose) w position answer is looks found = on_picked round holds w v (ops.Sys v zone l choose) position answer looks found
-lookup_answers round last holds (ops.Scan v zone from step count) w position answer is looks found = on_picked round holds w v (ops.Scan v zone from step count) position answer looks found
-lookup_answers round last holds (ops.Clock v conv x) w position answer is looks found = on_picked round holds w v (ops.Clock v conv x) position answer looks found
-lookup_answers round last holds ops.Look w position answer is looks found = absurd cc
-lookup_answers round last holds (ops.Hold name) w position answer is looks found = absurd cc
-lookup_answers round last holds (ops.Drop name) w position answer is looks found = absurd cc
-lookup_answers round last holds (ops.Reload src) w position answer is looks found = absurd cc
-lookup_answers round last holds (ops.Erase v) w position answer is looks found = absurd cc
-lookup_answers round last holds ops.List w position answer is looks found = absurd cc

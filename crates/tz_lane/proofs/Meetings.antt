@@ -16,20 +16,6 @@ keeps_twice v middle later first second = record {
   floor = second.floor ∙ first.floor;
 }
 
--- a reader that meets the list, and then meets it once more without a write, has met it at the first position
-pub meets_twice : (slots : ℕ) (v middle later : View) (w last : ℕ) → Meets slots v [] middle w → Meets slots middle [] later last → Meets slots v [] later w
-meets_twice slots v middle later w last first second =
-    let longer : length middle.seen ≤ length later.seen = no_shorter middle.seen later.seen second.grows in record {
-      grows = take_seen (length v.seen) middle.seen later.seen (no_shorter v.seen middle.seen first.grows) second.grows ∙ first.grows;
-      replay = second.replay;
-      from = first.from;
-      to = omega (arith, longer, first.to);
-      placed = λ write has. absurd (let low = has.1 in omega arith);
-      own = second.own ∙ append-nil middle.own ∙ first.own;
-      allowance = omega (arith, first.allowance, second.allowance);
-      keeps = keeps_twice v middle later first.keeps second.keeps;
-    }
-
 -- what is added behind a list and then taken off, where such a one stands, leaves the list but for its order
 pub added_and_removed : {X : Type 0} (xs : List X) (x : X) (at : ℕ) → slice_get (xs ++ x ∷ []) at ≡ Some x → IsPermutation xs (remove (xs ++ x ∷ []) at)
 added_and_removed [] x zero there = IsPermutation-refl []

@@ -17,7 +17,7 @@ use Rattle.tz_batch.specs.Batch.{Answered}
 use Rattle.tz_batch.specs.Round.{Round, newest_at}
 use Rattle.tz_batch.specs.Held.{holds_in, open_holds, IsOpenHold, IsHeldAs}
 use Rattle.tz_batch.specs.PassedOver.{IsHeldSlot}
-use Rattle.tz_lane.specs.Holding.{names_of, HoldsAs, HoldsSlot, HoldsAfter}
+use Rattle.tz_lane.specs.Holding.{names_of, LaneHoldsAs, HoldsSlot, HoldsAfter}
 use Rattle.tz_lane.specs.declared.lane_hold.LaneHold.{LaneHold}
 use Rattle.tz_lane.proofs.Names.{none_counted}
 
@@ -230,7 +230,7 @@ module _ (round : Round) (lane number : ℕ) (those : List Answered) (holds : Li
   }
 
   -- what the lane holds by a name is held so
-  pub held_as : (name : List ℕ) (edition : Edition) → HoldsAs round holds name edition → IsHeldAs round those operation name edition
+  pub held_as : (name : List ℕ) (edition : Edition) → LaneHoldsAs round holds name edition → IsHeldAs round those operation name edition
   held_as name edition (hold, has, named, version) = record {
     open_hold = open_of lane hold;
     begun = (mirrors.begun hold has).begun;

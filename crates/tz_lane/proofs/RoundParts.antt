@@ -3,15 +3,15 @@ use Rattle.std.proofs.Common.{◌≡◌, ℕ, zero, suc, ◌+◌, ◌-◌, ◌�
 use Rattle.std.specs.Prelude.{All, ◌==◌}
 use Rattle.std.specs.List.{AllAdjacentBelow}
 use Rattle.std.specs.List.Sorted.{IsPartitionedBy}
-use Rattle.std.proofs.lemmas.Bool.{cases_Bool, and_parts, eqb-true, cond-false}
+use Rattle.std.proofs.lemmas.Bool.{cases_Bool, and_parts, eqb-true, eq-eqb, ne_eqb, cond-true, cond-false}
 use Rattle.std.proofs.lemmas.List.{take-append-drop, append-nil, append_assoc, take_all}
-use Rattle.std.proofs.lemmas.List.Elements.{filter-append}
+use Rattle.std.proofs.lemmas.List.Elements.{All-take, filter-append}
 use Rattle.std.proofs.lemmas.List.Sorted.{IsPartitionedBy-ltb, IsNonDecreasingBy-from_all_adjacent}
 use Rattle.tz_script.specs.Inside.{is_no_later, RoundsDontFall}
 use Rattle.tz_script.specs.Keeping.{is_in}
 use Rattle.tz_script.specs.declared.operation.Operation.{Operation}
 use Rattle.tz_types.specs.Order.{ascends_after}
-use Rattle.tz_lane.specs.Lane.{lane_operations}
+use Rattle.tz_lane.specs.Lane.{lane_operations, round_operations}
 use Rattle.tz_lane.specs.Parts.{StandTogether}
 
 -- ---- rounds that don't fall ----
@@ -86,6 +86,38 @@ round_whole lane round n m all earlier later =
     let left : filter p all ≡ filter p rest = ap (filter p) (sym (take-append-drop n all)) ∙ filter-append p (take n all) rest ∙ ap (λ those. those ++ filter p rest) before in
     sym (left ∙ right)
 
+-- ---- the operations of a round ----
+
+-- one of another round isn't of this one
+not_of : (round : ℕ) (x : Operation) → x.round ≢ round → (x.round == round) ≡ false
+not_of round x away = ne_eqb x.round round away
+
+none_of : (round : ℕ) (xs : List Operation) → All (λ (x : Operation). x.round ≢ round) xs → round_operations round xs ≡ []
+none_of round [] away = refl
+none_of round (x ∷ xs) away =
+    cond-false (x.round == round) (x ∷ round_operations round xs) (round_operations round xs) (not_of round x (away zero x (omega arith)))
+    ∙ none_of round xs (λ k d low. away (suc k) d (omega (arith, low)))
+
+all_of : (round : ℕ) (xs : List Operation) → All (λ (x : Operation). x.round ≡ round) xs → round_operations round xs ≡ xs
+all_of round [] here = refl
+all_of round (x ∷ xs) here =
+    cond-true (x.round == round) (x ∷ round_operations round xs) (round_operations round xs) (eq-eqb x.round round (here zero x (omega arith)))
+    ∙ ap (λ (those : List Operation). x ∷ those) (all_of round xs (λ k d low. here (suc k) d (omega (arith, low))))
+
+-- what is left once those of earlier and of later rounds are off are the operations of the round
+round_is : (round n m : ℕ) (all : List Operation) → All (λ (x : Operation). x.round < round) (take n all) → All (λ (x : Operation). round ≤ x.round) (drop n all)
+    → All (λ (x : Operation). x.round < round + 1) (take m (drop n all)) → All (λ (x : Operation). round + 1 ≤ x.round) (drop m (drop n all))
+    → take m (drop n all) ≡ round_operations round all
+round_is round n m all earlier from up_to later =
+    let p = λ (x : Operation). x.round == round in let rest = drop n all in
+    let before : filter p (take n all) ≡ [] = none_of round (take n all) (λ k d low same. (let less = earlier k d low in omega (arith, less, same))) in
+    let behind : filter p (drop m rest) ≡ [] = none_of round (drop m rest) (λ k d low same. (let more = later k d low in omega (arith, more, same))) in
+    let those : filter p (take m rest) ≡ take m rest = all_of round (take m rest)
+    (λ k d low. let inside = All-take (λ (x : Operation). round ≤ x.round) m rest from k d low in let below = up_to k d low in omega (arith, inside, below)) in
+    let right : filter p rest ≡ filter p (take m rest) = ap (filter p) (sym (take-append-drop m rest)) ∙ filter-append p (take m rest) (drop m rest) ∙ ap (λ xs. filter p (take m rest) ++ xs) behind ∙ append-nil (filter p (take m rest)) in
+    let left : filter p all ≡ filter p rest = ap (filter p) (sym (take-append-drop n all)) ∙ filter-append p (take n all) rest ∙ ap (λ xs. xs ++ filter p rest) before in
+    sym (left ∙ right ∙ those)
+
 -- and it stands together
 pub round_together : (n m : ℕ) (all : List Operation) → StandTogether all (take m (drop n all))
 round_together n m all = record {
@@ -119,3 +151,14 @@ module _ (n : ℕ) (all given : List Operation) (same : given ≡ all) where
       ap (λ (rest : List Operation). lane_operations lane round (take m rest)) (from_on n given)
       ∙ round_whole lane round n m given earlier (subst (λ (rest : List Operation). All (λ (x : Operation). round + 1 ≤ x.round) (drop m rest)) (from_on n given) later)
       ∙ ap (lane_operations lane round) same
+
+  -- and are the operations of the round
+  pub slice_is : (m round : ℕ) → All (λ (x : Operation). x.round < round) (take n given) → All (λ (x : Operation). round ≤ x.round) (drop n given)
+      → All (λ (x : Operation). x.round < round + 1) (take m (take (length given - n) (drop n given))) → All (λ (x : Operation). round + 1 ≤ x.round) (drop m (take (length given - n) (drop n given)))
+      → take m (take (length given - n) (drop n given)) ≡ round_operations round all
+  slice_is m round earlier from up_to later =
+      ap (take m) (from_on n given)
+      ∙ round_is round n m given earlier from
+      (subst (λ (rest : List Operation). All (λ (x : Operation). x.round < round + 1) (take m rest)) (from_on n given) up_to)
+      (subst (λ (rest : List Operation). All (λ (x : Operation). round + 1 ≤ x.round) (drop m rest)) (from_on n given) later)
+      ∙ ap (round_operations round) same

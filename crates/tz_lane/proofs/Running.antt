@@ -1,5 +1,5 @@
 -- What a lane has done so far in its round, and one operation more.
-use Rattle.std.proofs.Common.{◌≡◌, ℕ, zero, suc, ◌+◌, ◌-◌, ◌≤◌, ◌<◌, ◌==◌, ◌⊎◌, true, List, [], ◌∷◌, ◌++◌, length, length-append, take, fold, filter, Contains, All, Some, refl, sym, ap, subst, ◌∙◌, inl, inr, ⊎_elim, append_assoc, append-nil, arith}
+use Rattle.std.proofs.Common.{◌≡◌, ℕ, zero, suc, ◌+◌, ◌-◌, ◌≤◌, ◌<◌, ◌==◌, ◌⊎◌, true, List, [], ◌∷◌, ◌++◌, length, length-append, take, fold, filter, Contains, All, IsTrue, Some, refl, sym, ap, subst, ◌∙◌, inl, inr, ⊎_elim, append_assoc, append-nil, arith}
 use Rattle.std.specs.Prelude.{slice_get}
 use Rattle.std.proofs.Math.Seq.{take-length}
 use Rattle.std.proofs.lemmas.Bool.{and_from, eq-eqb, cond-true}
@@ -16,8 +16,9 @@ use Rattle.tz_script.specs.declared.operation.Op.TheVariants as ops
 use Rattle.tz_script.specs.declared.operation.Operation.{Operation}
 use Rattle.tz_version.specs.declared.sources.Sources.{Sources}
 use Rattle.tz_version.specs.Release.{Release}
-use Rattle.tz_batch.specs.Answering.{IsRightReply}
-use Rattle.tz_batch.specs.Batch.{Answered}
+use Rattle.pin_book.specs.Replay.{Edition}
+use Rattle.tz_batch.specs.Answering.{AnswersOp, IsRightReply}
+use Rattle.tz_batch.specs.Batch.{Answered, tells_write}
 use Rattle.tz_batch.specs.Held.{IsHeldAs}
 use Rattle.tz_batch.specs.PassedOver.{IsHeldSlot}
 use Rattle.tz_batch.specs.Round.{Round, InTurn, is_beside, position_before}
@@ -25,11 +26,11 @@ use Rattle.tz_batch.specs.Run.{PlacedChange, change_told, HasPosition, SlotsKeep
 use Rattle.tz_batch.specs.declared.answer.Answer.{Answer}
 use Rattle.tz_batch.specs.declared.answer.Answer.TheVariants as answers
 use Rattle.tz_batch.specs.declared.reply.Reply.{Reply}
-use Rattle.tz_lane.specs.Counting.{loads_of, turns_of, Counts}
-use Rattle.tz_lane.specs.Holding.{HoldsAs, HoldsSlot}
-use Rattle.tz_lane.specs.Lane.{changes_told_by, writes_from, IsPlacedIn, RiseAbove, loads_told, turns_told}
+use Rattle.tz_lane.specs.Counting.{loads_of, turns_of, TalliesRise}
+use Rattle.tz_lane.specs.Holding.{LaneHoldsAs, HoldsSlot}
+use Rattle.tz_lane.specs.Lane.{changes_told_by, writes_from, IsPlacedIn, RiseAbove, IsAbove, loads_told, turns_told}
 use Rattle.tz_lane.specs.Meeting.{lane_round, writes_made, KeepsNumbers, Meets}
-use Rattle.tz_lane.specs.Serving.{Serves}
+use Rattle.tz_lane.specs.Serving.{ServesInLane}
 use Rattle.tz_lane.specs.declared.lane_hold.LaneHold.{LaneHold}
 use Rattle.tz_lane.specs.declared.told.Told.{Told}
 use Rattle.tz_lane.proofs.Fronts.{seen_stays}
@@ -56,6 +57,7 @@ pub record HasRun (plan : Plan Release) (sources : Sources) (number lane round :
   pub grows : take (length v.seen) now.seen ≡ v.seen
   pub right : InTurn those (IsRightReply (lane_round plan sources (length v.seen) now))
   pub positions : InTurn those (HasPosition (lane_round plan sources (length v.seen) now))
+  pub above : InTurn those (IsAbove (lane_round plan sources (length v.seen) now))
   pub slots : InTurn those (SlotsKeep (lane_round plan sources (length v.seen) now))
   pub pushes : InTurn those (PassesOver (lane_round plan sources (length v.seen) now))
   pub own : now.own ≡ v.own ++ writes_from number (length v.own) (changes_told_by those)
@@ -63,7 +65,7 @@ pub record HasRun (plan : Plan Release) (sources : Sources) (number lane round :
   pub order : RiseAbove (length v.seen) (changes_told_by those)
   pub below : All (λ (placed : PlacedChange). placed.w ≤ length now.seen) (changes_told_by those)
   pub allowance : now.allowance + length (changes_told_by those) ≡ v.allowance
-  pub counts : Counts v now (loads_told those) (turns_told those)
+  pub counts : TalliesRise v now (loads_told those) (turns_told those)
   pub keeps : KeepsNumbers v now
   pub mirrors : Mirrors lane round those holds
 
@@ -76,6 +78,7 @@ has_run_none plan sources number lane round v = record {
   grows = take-length v.seen;
   right = in_turn_none _;
   positions = in_turn_none _;
+  above = in_turn_none _;
   slots = in_turn_none _;
   pushes = in_turn_none _;
   own = sym (append-nil v.own);
@@ -119,6 +122,9 @@ module _ (plan : Plan Release) (sources : Sources) (begun slots : ℕ) (made : L
     positions_still = in_turn_map those (HasPosition earlier) (HasPosition later) (λ before behind here is fact.
         position_grows earlier later (omega arith) (no_shorter v.seen now.seen meets.grows) before here fact)
 
+    above_still : InTurn those (IsAbove earlier) → InTurn those (IsAbove later)
+    above_still = in_turn_map those (IsAbove earlier) (IsAbove later) (λ before behind here is fact. fact)
+
     slots_still : InTurn those (SlotsKeep earlier) → InTurn those (SlotsKeep later)
     slots_still = in_turn_map those (SlotsKeep earlier) (SlotsKeep later) (λ before behind here is fact.
         kept_grows earlier later goes_on here.reply.w here.reply.answer (here_low before behind here is) fact)
@@ -156,6 +162,13 @@ tells : (number : ℕ) (v : View) (line round lane said w : ℕ) (op : Op) (answ
 tells number v line round lane said w (ops.Reload src) (answers.Pushed n slot) = inr (Push n src slot, refl, refl)
 tells number v line round lane said w op (answers.Erased n slot gone) = inr (Erase n gone, refl, refl)
 tells number v line round lane said w op answer = inl (refl, refl)
+
+-- an answer that tells of a write comes where the reader made one
+made_if_told : (number : ℕ) (v : View) (q : Round) (last : ℕ) (holds : List ℕ → Edition → Type 0) (w : ℕ) (op : Op) (answer : Answer) → AnswersOp q last holds op w answer → IsTrue (tells_write answer) → length (writes_made number v op answer) ≡ 1
+made_if_told number v q last holds w (ops.Reload src) (answers.Pushed n slot) right told = refl
+made_if_told number v q last holds w op (answers.Pushed n slot) right told = absurd right
+made_if_told number v q last holds w op (answers.Erased n slot gone) right told = refl
+made_if_told number v q last holds w op answer right told = cc
 
 -- ---- writes ----
 
@@ -196,7 +209,7 @@ all_map F G follows (x ∷ xs) all = All-cons G x xs (follows x (All-contains F 
 -- ---- one operation more ----
 
 module _ (plan : Plan Release) (sources : Sources) (number lane round : ℕ) (v now next : View) (those : List Answered) (holds later : List LaneHold) (operation : Operation) (told : Told)
-    (so_far : HasRun plan sources number lane round v those now holds) (served : Serves plan sources number now holds operation.line operation.op told next later) (of : IsOf lane round (answered_as operation told)) where
+    (so_far : HasRun plan sources number lane round v those now holds) (served : ServesInLane plan sources number now holds operation.line operation.op told next later) (of : IsOf lane round (answered_as operation told)) where
   abbrev here : Answered
   here = answered_as operation told
 
@@ -216,11 +229,16 @@ module _ (plan : Plan Release) (sources : Sources) (number lane round : ℕ) (v 
 
   new_right : IsRightReply known those here
   new_right =
-      answer_grows known known (goes_on_itself known) (length now.seen) (position_before known those operation) (HoldsAs known holds) (IsHeldAs known those operation) new_last
+      answer_grows known known (goes_on_itself known) (length now.seen) (position_before known those operation) (LaneHoldsAs known holds) (IsHeldAs known those operation) new_last
       (held_as known lane round those holds so_far.mirrors operation of.0 of.1) operation.op told.w told.answer new_low (served.answer (length v.seen))
 
   new_position : HasPosition known those here
   new_position = let from = served.meets.from in record { low = omega (arith, new_last, from); high = new_low }
+
+  new_above : IsAbove known those here
+  new_above told_write =
+      let one = made_if_told number now known (length now.seen) (LaneHoldsAs known holds) told.w operation.op told.answer (served.answer (length v.seen)) told_write in
+      let from = served.meets.from in omega (arith, new_last, from, one)
 
   new_slots : SlotsKeep known those here
   new_slots = served.kept (length v.seen)
@@ -295,6 +313,7 @@ module _ (plan : Plan Release) (sources : Sources) (number lane round : ℕ) (v 
     grows = seen_stays now.seen next.seen (length v.seen) served.meets.grows (no_shorter v.seen now.seen so_far.grows) ∙ so_far.grows;
     right = in_turn_push those here (IsRightReply known) (right_still plan sources (length v.seen) plan.slots made now next told.w served.meets those so_far.low so_far.right) new_right;
     positions = in_turn_push those here (HasPosition known) (positions_still plan sources (length v.seen) plan.slots made now next told.w served.meets those so_far.low so_far.positions) new_position;
+    above = in_turn_push those here (IsAbove known) (above_still plan sources (length v.seen) plan.slots made now next told.w served.meets those so_far.low so_far.above) new_above;
     slots = in_turn_push those here (SlotsKeep known) (slots_still plan sources (length v.seen) plan.slots made now next told.w served.meets those so_far.low so_far.slots) new_slots;
     pushes = in_turn_push those here (PassesOver known) (pushes_still plan sources (length v.seen) plan.slots made now next told.w served.meets those so_far.low so_far.pushes) new_pushes;
     own = new_own;

@@ -22,19 +22,19 @@ use Rattle.tz_types.specs.declared.memory.NoMemory.{NoMemory}
 use Rattle.pin_table.specs.declared.table.PinTable.{PinTable}
 use Rattle.pin_table.specs.Table.{plan as plan_of}
 use Rattle.tz_list.specs.declared.list.TzdbList.{TzdbList}
-use Rattle.tz_batch.specs.Answering.{AnswersList, AnswersDrop, AnswersErase, LooksInto, Answers}
+use Rattle.tz_batch.specs.Answering.{AnswersList, AnswersDrop, AnswersErase, LooksInto, AnswersOp}
 use Rattle.tz_batch.specs.Round.{Round, newest_at}
 use Rattle.tz_batch.specs.Run.{TellsKept, PassesSlots}
 use Rattle.tz_batch.specs.declared.answer.Answer.{Answer}
 use Rattle.tz_batch.specs.declared.answer.Answer.TheVariants as answers
 use Rattle.tz_list.specs.Reload.{release_home, release_source}
 use Rattle.tz_lane.specs.Changing.{HasHandleAt, ReloadsInLane, ErasesInLane, AnswersEraseOf, AnswersEraseFront}
-use Rattle.tz_lane.specs.Counting.{loads_of, turns_of, Counts}
-use Rattle.tz_lane.specs.Holding.{AreHeld, HoldsAs, HoldsSlot, HoldsAfter}
+use Rattle.tz_lane.specs.Counting.{loads_of, turns_of, TalliesRise}
+use Rattle.tz_lane.specs.Holding.{AreHeld, LaneHoldsAs, HoldsSlot, HoldsAfter}
 use Rattle.tz_lane.specs.LaneLookup.{is_lookup, pick_asked, AnswersOnFrontAt}
 use Rattle.tz_lane.specs.Meeting.{lane_round, writes_made, Meets}
 use Rattle.tz_lane.specs.Pins.{AnswersDropOf}
-use Rattle.tz_lane.specs.Serving.{Serves}
+use Rattle.tz_lane.specs.Serving.{ServesInLane}
 use Rattle.tz_lane.specs.declared.lane_hold.LaneHold.{LaneHold}
 use Rattle.tz_lane.specs.declared.told.Told.{Told}
 use Rattle.tz_lane.proofs.Fronts.{handle_told_later}
@@ -48,7 +48,7 @@ abbrev pub is_quiet : Op → Bool
 is_quiet op = not (is_change op)
 
 -- no slot is passed over where no version is pushed
-passes_none : (q r : Round) (last : ℕ) (holds : List ℕ → Edition → Type 0) (is_held : ℕ → Type 0) (w : ℕ) (op : Op) (answer : Answer) → is_change op ≡ false → Answers q last holds op w answer → PassesSlots r is_held w answer
+passes_none : (q r : Round) (last : ℕ) (holds : List ℕ → Edition → Type 0) (is_held : ℕ → Type 0) (w : ℕ) (op : Op) (answer : Answer) → is_change op ≡ false → AnswersOp q last holds op w answer → PassesSlots r is_held w answer
 passes_none q r last holds is_held w (ops.Reload src) answer quiet right = cc
 passes_none q r last holds is_held w (ops.Erase pick) answer quiet right = cc
 passes_none q r last holds is_held w op (answers.Pushed n slot) quiet right = absurd right
@@ -62,20 +62,20 @@ no_writes (write ∷ made) few = absurd (omega (arith, few))
 -- an operation that makes no write
 pub serves_quiet : (plan : Plan Release) (sources : Sources) (number : ℕ) (v : View) (held : List LaneHold) (line : ℕ) (op : Op) (told : Told) (now : View) (later : List LaneHold) → is_change op ≡ false
     → Meets plan.slots v [] now told.w
-    → ((begun : ℕ) → Answers (lane_round plan sources begun now) (length v.seen) (HoldsAs (lane_round plan sources begun now) held) op told.w told.answer)
+    → ((begun : ℕ) → AnswersOp (lane_round plan sources begun now) (length v.seen) (LaneHoldsAs (lane_round plan sources begun now) held) op told.w told.answer)
     → ((begun : ℕ) → TellsKept (lane_round plan sources begun now) told.w told.answer)
-    → Counts v now (loads_of op told.answer) (turns_of op told.answer)
+    → TalliesRise v now (loads_of op told.answer) (turns_of op told.answer)
     → HoldsAfter line op told.w held later
-    → Serves plan sources number v held line op told now later
+    → ServesInLane plan sources number v held line op told now later
 serves_quiet plan sources number v held line op told now later quiet meets answer kept counts holds =
     let known = lane_round plan sources 0 now in
-    let few = made_few number v known (length v.seen) (HoldsAs known held) told.w op told.answer (answer 0) in
+    let few = made_few number v known (length v.seen) (LaneHoldsAs known held) told.w op told.answer (answer 0) in
     let none : writes_made number v op told.answer ≡ [] = no_writes (writes_made number v op told.answer) (omega (arith, few, ap (λ (b : Bool). cond {A = ℕ} b 1 0) quiet)) in
     record {
       meets = subst (λ made. Meets plan.slots v made now told.w) (sym none) meets;
       answer = answer;
       kept = kept;
-      passes = λ begun. passes_none (lane_round plan sources begun now) (lane_round plan sources begun now) (length v.seen) (HoldsAs (lane_round plan sources begun now) held) (HoldsSlot (lane_round plan sources begun now) held) told.w op told.answer quiet (answer begun);
+      passes = λ begun. passes_none (lane_round plan sources begun now) (lane_round plan sources begun now) (length v.seen) (LaneHoldsAs (lane_round plan sources begun now) held) (HoldsSlot (lane_round plan sources begun now) held) told.w op told.answer quiet (answer begun);
       counts = counts;
       holds = holds;
     }
@@ -84,7 +84,7 @@ serves_quiet plan sources number v held line op told now later quiet meets answe
 
 -- a lookup in the version that it picks
 pub lookup_right : (round : Round) (last : ℕ) (holds : List ℕ → Edition → Type 0) (position w : ℕ) (op : Op) (answer : Answer) → is_lookup op ≡ true → LooksInto round holds w (pick_asked op) (newest_at round position)
-    → AnswersOnFrontAt round op position answer → Answers round last holds op w answer
+    → AnswersOnFrontAt round op position answer → AnswersOp round last holds op w answer
 lookup_right round last holds position w (ops.Info v zone t) (answers.On n slot found) lookup looks right = (newest_at round position, looks, right.0, right.1)
 lookup_right round last holds position w (ops.Info v zone t) _ lookup looks right = absurd right
 lookup_right round last holds position w (ops.Local v zone l) (answers.On n slot found) lookup looks right = (newest_at round position, looks, right.0, right.1)
@@ -100,10 +100,10 @@ lookup_right round last holds position w op answer lookup looks right = cc
 -- a lookup, by its answer
 pub serves_lookup : (plan : Plan Release) (sources : Sources) (number : ℕ) (v : View) (held : List LaneHold) (line : ℕ) (op : Op) (told : Told) (now : View) → is_lookup op ≡ true
     → Meets plan.slots v [] now told.w
-    → ((begun : ℕ) → Answers (lane_round plan sources begun now) (length v.seen) (HoldsAs (lane_round plan sources begun now) held) op told.w told.answer)
+    → ((begun : ℕ) → AnswersOp (lane_round plan sources begun now) (length v.seen) (LaneHoldsAs (lane_round plan sources begun now) held) op told.w told.answer)
     → ((begun : ℕ) → TellsKept (lane_round plan sources begun now) told.w told.answer)
-    → Counts v now 1 0
-    → Serves plan sources number v held line op told now held
+    → TalliesRise v now 1 0
+    → ServesInLane plan sources number v held line op told now held
 serves_lookup plan sources number v held line (ops.Info p zone t) told now lookup meets answer kept counts = serves_quiet plan sources number v held line (ops.Info p zone t) told now held refl meets answer kept counts refl
 serves_lookup plan sources number v held line (ops.Local p zone l) told now lookup meets answer kept counts = serves_quiet plan sources number v held line (ops.Local p zone l) told now held refl meets answer kept counts refl
 serves_lookup plan sources number v held line (ops.Sys p zone l choose) told now lookup meets answer kept counts = serves_quiet plan sources number v held line (ops.Sys p zone l choose) told now held refl meets answer kept counts refl
@@ -122,22 +122,22 @@ lookup_needs op lookup = cc
 
 -- the drop of a hold
 pub drop_right : (round : Round) (holds : List LaneHold) (name : List ℕ) (hold : LaneHold) (answer : Answer) → Contains holds hold → hold.name ≡ name → AnswersDropOf round hold.handle.position answer
-    → AnswersDrop (HoldsAs round holds) name answer
+    → AnswersDrop (LaneHoldsAs round holds) name answer
 drop_right round holds name hold (answers.Dropped n slot) has named right = (newest_at round hold.handle.position, (hold, has, named, refl), right)
 drop_right round holds name hold _ has named right = absurd right
 
 -- an erasure behind a version that is held
 pub erase_held_right : (round : Round) (last : ℕ) (holds : List LaneHold) (name : List ℕ) (hold : LaneHold) (w : ℕ) (answer : Answer) → Contains holds hold → hold.name ≡ name → AnswersEraseOf round hold.handle.position w answer
-    → AnswersErase round last (HoldsAs round holds) (Held name) w answer
+    → AnswersErase round last (LaneHoldsAs round holds) (Held name) w answer
 erase_held_right round last holds name hold w (answers.NotListed n slot) has named right = ((right.0.0, (hold, has, named, right.0.1), right.0.2), right.1)
 erase_held_right round last holds name hold w (answers.Nothing n slot) has named right = ((right.0.0, (hold, has, named, right.0.1), right.0.2), right.1, right.2)
 erase_held_right round last holds name hold (suc w) (answers.Erased n slot gone) has named right = ((right.0.0, (hold, has, named, right.0.1), right.0.2), right.1, right.2)
 erase_held_right round last holds name hold w _ has named right = absurd right
 
 -- behind the front
-pub erase_front_right : (round : Round) (last : ℕ) (holds : List LaneHold) (w : ℕ) (answer : Answer) → w ≤ length round.journal → AnswersEraseFront round last w answer → AnswersErase round last (HoldsAs round holds) Front w answer
+pub erase_front_right : (round : Round) (last : ℕ) (holds : List LaneHold) (w : ℕ) (answer : Answer) → w ≤ length round.journal → AnswersEraseFront round last w answer → AnswersErase round last (LaneHoldsAs round holds) Front w answer
 erase_front_right round last holds w answer low right =
-    answer_grows round round (goes_on_itself round) last last (λ name edition. ⊥) (HoldsAs round holds) (omega arith) (λ name edition none. absurd none) (ops.Erase Front) w answer low right
+    answer_grows round round (goes_on_itself round) last last (λ name edition. ⊥) (LaneHoldsAs round holds) (omega arith) (λ name edition none. absurd none) (ops.Erase Front) w answer low right
 
 erase_passes : (q r : Round) (last : ℕ) (holds : List ℕ → Edition → Type 0) (is_held : ℕ → Type 0) (pick : Pick) (w : ℕ) (answer : Answer) → AnswersErase q last holds pick w answer → PassesSlots r is_held w answer
 erase_passes q r last holds is_held pick zero (answers.Pushed n slot) right = absurd right
@@ -148,13 +148,13 @@ erase_passes q r last holds is_held pick w answer right = tt
 
 -- an erasure, by its answer
 pub serves_erase : (plan : Plan Release) (sources : Sources) (number : ℕ) (v : View) (held : List LaneHold) (line : ℕ) (pick : Pick) (told : Told) (now : View) → ErasesInLane plan number v told now
-    → ((begun : ℕ) → AnswersErase (lane_round plan sources begun now) (length v.seen) (HoldsAs (lane_round plan sources begun now) held) pick told.w told.answer)
-    → Serves plan sources number v held line (ops.Erase pick) told now held
+    → ((begun : ℕ) → AnswersErase (lane_round plan sources begun now) (length v.seen) (LaneHoldsAs (lane_round plan sources begun now) held) pick told.w told.answer)
+    → ServesInLane plan sources number v held line (ops.Erase pick) told now held
 serves_erase plan sources number v held line pick told now erases answer = record {
   meets = erases.meets pick;
   answer = answer;
   kept = erases.kept sources;
-  passes = λ begun. erase_passes (lane_round plan sources begun now) (lane_round plan sources begun now) (length v.seen) (HoldsAs (lane_round plan sources begun now) held) (HoldsSlot (lane_round plan sources begun now) held) pick told.w told.answer (answer begun);
+  passes = λ begun. erase_passes (lane_round plan sources begun now) (lane_round plan sources begun now) (length v.seen) (LaneHoldsAs (lane_round plan sources begun now) held) (HoldsSlot (lane_round plan sources begun now) held) pick told.w told.answer (answer begun);
   counts = erases.counts pick;
   holds = refl;
 }
@@ -217,7 +217,7 @@ module _ (plan : Plan Release) (v : View) (held : List LaneHold) (are : AreHeld 
       held_some slot v.entries pin (Contains-permutation (map pin_in held) v.entries pin are.pins (has_mapped pin_in held hold has)) (and_from (pin.slot == slot) true (eq-eqb pin.slot slot at) refl)
 
   -- a reload, by its answer
-  pub serves_reload : (sources : Sources) (number line src : ℕ) (told : Told) (now : View) → ReloadsInLane plan sources number v src told now → Serves plan sources number v held line (ops.Reload src) told now held
+  pub serves_reload : (sources : Sources) (number line src : ℕ) (told : Told) (now : View) → ReloadsInLane plan sources number v src told now → ServesInLane plan sources number v held line (ops.Reload src) told now held
   serves_reload sources number line src told now reloads = record {
     meets = reloads.meets;
     answer = reloads.answer;
@@ -276,19 +276,19 @@ pub home_of : (tzdb : TzdbList) (table : PinTable Release Sources) → table ≡
 home_of tzdb table same = ap (λ (it : PinTable Release Sources). release_home (plan_of it).first) same ∙ tzdb.home
 
 pub reload_serves : (plan : Plan Release) (v : View) (held : List LaneHold) → AreHeld plan v held → (sources : Sources) (number line src : ℕ) (op : Op) → op ≡ ops.Reload src → (made : Result Told NoMemory) (now : View)
-    → IfOk made (λ (told : Told). ReloadsInLane plan sources number v src told now) → IfOk made (λ (told : Told). Serves plan sources number v held line op told now held)
+    → IfOk made (λ (told : Told). ReloadsInLane plan sources number v src told now) → IfOk made (λ (told : Told). ServesInLane plan sources number v held line op told now held)
 reload_serves plan v held are sources number line src op is (Ok told) now reloads =
-    subst (λ (it : Op). Serves plan sources number v held line it told now held) (sym is) (serves_reload plan v held are sources number line src told now reloads)
+    subst (λ (it : Op). ServesInLane plan sources number v held line it told now held) (sym is) (serves_reload plan v held are sources number line src told now reloads)
 reload_serves plan v held are sources number line src op is (Err none) now reloads = tt
 
 pub list_serves : (plan : Plan Release) (home sources : Sources) → home ≡ sources → (number : ℕ) (v : View) (held : List LaneHold) (line : ℕ) (op : Op) → op ≡ ops.List → (made : Result Told NoMemory) (now : View)
     → IfOk made (λ (told : Told). Meets plan.slots v [] now told.w)
     → IfOk made (λ (told : Told). (begun : ℕ) → AnswersList (lane_round plan home begun now) told.w told.answer)
     → IfOk made (λ (told : Told). (those : Sources) (begun : ℕ) → TellsKept (lane_round plan those begun now) told.w told.answer)
-    → Counts v now 0 1
-    → IfOk made (λ (told : Told). Serves plan sources number v held line op told now held)
+    → TalliesRise v now 0 1
+    → IfOk made (λ (told : Told). ServesInLane plan sources number v held line op told now held)
 list_serves plan home sources same number v held line op is (Ok told) now meets answer kept counts =
-    subst (λ (it : Op). Serves plan sources number v held line it told now held) (sym is)
+    subst (λ (it : Op). ServesInLane plan sources number v held line it told now held) (sym is)
     (serves_quiet plan sources number v held line ops.List told now held refl meets
     (λ begun. subst (λ (those : Sources). AnswersList (lane_round plan those begun now) told.w told.answer) same (answer begun)) (λ begun. kept sources begun) counts refl)
 list_serves plan home sources same number v held line op is (Err none) now meets answer kept counts = tt

@@ -16,30 +16,6 @@ use Rattle.tz_lane.specs.declared.lane_hold.LaneHold.{LaneHold}
 use Rattle.tz_lane.proofs.Fronts.{seen_stays}
 use Rattle.tz_lane.proofs.Running.{HasRun, writes_length, no_shorter}
 
-pub quiet_of : (v now : View) → KeepsPins v now → KeepsWrites v now → MeetsQuietly v now
-quiet_of v now pins writes = record {
-  grows = pins.grows;
-  own = writes.own;
-  allowance = writes.allowance;
-  keeps = record { role = pins.role; numbers = pins.numbers; floor = pins.floor };
-}
-
-pub quiet_itself : (v now : View) → now ≡ v → MeetsQuietly v now
-quiet_itself v now same = subst (MeetsQuietly v) (sym same) (record {
-  grows = take-length v.seen;
-  own = refl;
-  allowance = refl;
-  keeps = record { role = refl; numbers = refl; floor = refl };
-})
-
-pub quiet_if : {A : Type 0} (v now : View) (made : Result A NoMemory) → OnErr made (now ≡ v) → OnErr made (MeetsQuietly v now)
-quiet_if v now (Ok done) same = tt
-quiet_if v now (Err none) same = quiet_itself v now same
-
-pub quiet_always : {A : Type 0} (v now : View) (made : Result A NoMemory) → MeetsQuietly v now → OnErr made (MeetsQuietly v now)
-quiet_always v now (Ok done) quiet = tt
-quiet_always v now (Err none) quiet = quiet
-
 -- a lane that stops after what it has run so far
 pub stops_here : (plan : Plan Release) (sources : Sources) (number lane round : ℕ) (v : View) (those : List Answered) (now : View) (holds : List LaneHold) → HasRun plan sources number lane round v those now holds → StopsLane v now
 stops_here plan sources number lane round v those now holds run = record {

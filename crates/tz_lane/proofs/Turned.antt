@@ -9,7 +9,7 @@ use Rattle.pin_core.specs.declared.view.View.{View}
 use Rattle.pin_core.specs.Step.{got_turn, gave_turn, stored}
 use Rattle.pin_table.specs.Turns.{FindsJournal, WaitsForTurn}
 use Rattle.pin_table.proofs.PlaceLemmas.{no_shorter}
-use Rattle.tz_lane.specs.Counting.{Counts}
+use Rattle.tz_lane.specs.Counting.{TalliesRise}
 use Rattle.tz_lane.specs.Meeting.{KeepsNumbers, Meets}
 
 -- The reader has had the turn once, and found this journal. It wrote these writes behind it.
@@ -110,7 +110,7 @@ met_write slots v v' journal write found allows turn =
     }
 
 -- the turn is counted
-pub counted : (v v' : View) (journal made : List Write) → HadTurn v v' journal made → Counts v v' 0 1
+pub counted : (v v' : View) (journal made : List Write) → HadTurn v v' journal made → TalliesRise v v' 0 1
 counted v v' journal made turn = record { loads = (let same = turn.loads in omega arith); taken = (let one = turn.taken in omega arith) }
 
 -- the write that was made last, by its place

@@ -32,17 +32,17 @@ use Rattle.tz_script.proofs.Order.{lines_rise}
 use Rattle.tz_version.specs.declared.sources.Sources.{Sources}
 use Rattle.tz_version.specs.Release.{Release}
 use Rattle.pin_book.specs.Replay.{Edition}
-use Rattle.tz_batch.specs.Answering.{Answers}
+use Rattle.tz_batch.specs.Answering.{AnswersOp}
 use Rattle.tz_batch.specs.Round.{Round}
 use Rattle.tz_batch.specs.declared.answer.Answer.{Answer}
 use Rattle.tz_batch.specs.declared.answer.Answer.TheVariants as answers
 use Rattle.tz_batch.specs.Batch.{Answered, each_answered}
 use Rattle.tz_batch.specs.declared.reply.Reply.{Reply}
-use Rattle.tz_lane.specs.Holding.{names_of, AreHeld, HoldsAs, HoldsAfter}
+use Rattle.tz_lane.specs.Holding.{names_of, AreHeld, LaneHoldsAs, HoldsAfter}
 use Rattle.tz_lane.specs.Meeting.{lane_round, writes_made}
 use Rattle.tz_lane.specs.Lane.{lane_operations, RunsLane}
 use Rattle.tz_lane.specs.Parts.{StandTogether}
-use Rattle.tz_lane.specs.Serving.{Serves}
+use Rattle.tz_lane.specs.Serving.{ServesInLane}
 use Rattle.tz_lane.specs.declared.lane_hold.LaneHold.{LaneHold}
 use Rattle.tz_lane.specs.declared.told.Told.{Told}
 use Rattle.tz_lane.proofs.Mirrors.{IsOf, IsDropped}
@@ -123,7 +123,7 @@ module _ (lane round : ℕ) (operations : List Operation) (i : ℕ) (here : Oper
 -- ---- the loop ----
 
 -- no operation makes a write but a change, and that makes one
-pub made_few : (number : ℕ) (v : View) (q : Round) (last : ℕ) (held : List ℕ → Edition → Type 0) (w : ℕ) (op : Op) (answer : Answer) → Answers q last held op w answer → length (writes_made number v op answer) ≤ cond (is_change op) 1 0
+pub made_few : (number : ℕ) (v : View) (q : Round) (last : ℕ) (held : List ℕ → Edition → Type 0) (w : ℕ) (op : Op) (answer : Answer) → AnswersOp q last held op w answer → length (writes_made number v op answer) ≤ cond (is_change op) 1 0
 made_few number v q last held w (ops.Reload src) (answers.Pushed n slot) right = omega arith
 made_few number v q last held w (ops.Reload src) (answers.Erased n slot gone) right = omega arith
 made_few number v q last held w (ops.Reload src) answer right = omega arith
@@ -196,7 +196,7 @@ module _ (plan : Plan Release) (sources : Sources) (number lane round : ℕ) (op
 
     -- what is underway with one reply more
     pub underway_more : (script : Script) → StandTogether script.operations operations → (told : Told) (next : View) (later : List LaneHold) (more : List Reply)
-        → Serves plan sources number now holds here.line here.op told next later → AreHeld plan next later → more ≡ replies ++ reply_of here told ∷ []
+        → ServesInLane plan sources number now holds here.line here.op told next later → AreHeld plan next later → more ≡ replies ++ reply_of here told ∷ []
         → Underway plan sources number lane round operations v (i + 1) more next later
     underway_more script together told next later more served held pushed =
         let done = own_done lane round operations i here low is inside in
@@ -207,7 +207,7 @@ module _ (plan : Plan Release) (sources : Sources) (number lane round : ℕ) (op
         let ran = has_run_next plan sources number lane round v now next (each_answered (lane_operations lane round (take i operations)) replies) holds later here told underway.run served of (fresh script together) away in
         let both : each_answered (lane_operations lane round (take (i + 1) operations)) more ≡ each_answered (lane_operations lane round (take i operations)) replies ++ answered_as here told ∷ [] =
         (λ j. each_answered (done j) (pushed j)) ∙ one_more_answered (lane_operations lane round (take i operations)) replies here (reply_of here told) long in
-        let made = served.meets.allowance in let few = made_few number now (lane_round plan sources 0 next) (length now.seen) (HoldsAs (lane_round plan sources 0 next) holds) told.w here.op told.answer (served.answer 0) in
+        let made = served.meets.allowance in let few = made_few number now (lane_round plan sources 0 next) (length now.seen) (LaneHoldsAs (lane_round plan sources 0 next) holds) told.w here.op told.answer (served.answer 0) in
         let room = underway.room in
         record {
           lines = ap (map (λ (reply : Reply). reply.line)) pushed ∙ map-append (λ (reply : Reply). reply.line) replies (reply_of here told ∷ [])
@@ -254,10 +254,10 @@ held_by table later same v holds held = subst (λ (it : PinTable Release Sources
 
 -- what a reader of that table and number is told
 pub served_by : (table later : PinTable Release Sources) → later ≡ table → (number other : ℕ) → other ≡ number → (sources : Sources) (v : View) (holds : List LaneHold) (line : ℕ) (op : Op) (told : Told) (next : View) (left : List LaneHold)
-    → Serves (plan_of later) sources other v holds line op told next left → Serves (plan_of table) sources number v holds line op told next left
+    → ServesInLane (plan_of later) sources other v holds line op told next left → ServesInLane (plan_of table) sources number v holds line op told next left
 served_by table later same number other alike sources v holds line op told next left served =
-    subst (λ (it : PinTable Release Sources). Serves (plan_of it) sources number v holds line op told next left) same
-    (subst (λ (n : ℕ). Serves (plan_of later) sources n v holds line op told next left) alike served)
+    subst (λ (it : PinTable Release Sources). ServesInLane (plan_of it) sources number v holds line op told next left) same
+    (subst (λ (n : ℕ). ServesInLane (plan_of later) sources n v holds line op told next left) alike served)
 
 -- ---- the beginning and the end ----
 
@@ -312,6 +312,7 @@ module _ (plan : Plan Release) (sources : Sources) (number lane round : ℕ) (sc
         grows = run.grows;
         right = run.right;
         positions = run.positions;
+        above = run.above;
         slots = run.slots;
         pushes = run.pushes;
         own = run.own;

@@ -13,7 +13,7 @@ use Rattle.tz_batch.specs.Round.{Round, newest_at}
 use Rattle.tz_batch.specs.Run.{TellsKept, PassesSlots}
 use Rattle.tz_batch.specs.declared.answer.Answer.{Answer}
 use Rattle.tz_lane.specs.declared.told.Told.{Told}
-use Rattle.tz_lane.specs.Counting.{loads_of, turns_of, Counts}
+use Rattle.tz_lane.specs.Counting.{loads_of, turns_of, TalliesRise}
 use Rattle.tz_lane.specs.Meeting.{lane_round, writes_made, Meets}
 
 -- the reader has a handle at the slot
@@ -27,14 +27,14 @@ pub record ReloadsInLane (plan : Plan Release) (sources : Sources) (number : ℕ
   pub answer : (begun : ℕ) → AnswersReload (lane_round plan sources begun v') src told.w told.answer
   pub kept : (begun : ℕ) → TellsKept (lane_round plan sources begun v') told.w told.answer
   pub passes : (begun : ℕ) → PassesSlots (lane_round plan sources begun v') (HasHandleAt v) told.w told.answer
-  pub counts : Counts v v' (loads_of (ops.Reload src) told.answer) (turns_of (ops.Reload src) told.answer)
+  pub counts : TalliesRise v v' (loads_of (ops.Reload src) told.answer) (turns_of (ops.Reload src) told.answer)
 
 -- The reader of a number, which knew v, was told this of an erasure, and knows v' now. Which version the erasure was behind
 -- is told apart.
 pub record ErasesInLane (plan : Plan Release) (number : ℕ) (v : View) (told : Told) (v' : View) : Type 0 where
   pub meets : (pick : Pick) → Meets plan.slots v (writes_made number v (ops.Erase pick) told.answer) v' told.w
   pub kept : (sources : Sources) (begun : ℕ) → TellsKept (lane_round plan sources begun v') told.w told.answer
-  pub counts : (pick : Pick) → Counts v v' (loads_of (ops.Erase pick) told.answer) (turns_of (ops.Erase pick) told.answer)
+  pub counts : (pick : Pick) → TalliesRise v v' (loads_of (ops.Erase pick) told.answer) (turns_of (ops.Erase pick) told.answer)
 
 -- an erasure behind what was at the front at a position
 abbrev pub AnswersEraseOf : Round → ℕ → ℕ → Answer → Type 0

@@ -23,6 +23,6 @@ turns_of ops.List answer = 1
 turns_of op answer = 0
 
 -- the reader's tallies rose by at least so many
-pub record Counts (v v' : View) (loaded turned : ℕ) : Type 0 where
+pub record TalliesRise (v v' : View) (loaded turned : ℕ) : Type 0 where
   pub loads : v.loads + loaded ≤ v'.loads
   pub taken : v.taken + turned ≤ v'.taken

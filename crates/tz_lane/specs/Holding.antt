@@ -21,8 +21,8 @@ pub record AreHeld (plan : Plan Release) (v : View) (holds : List LaneHold) : Ty
   pub made : (hold : LaneHold) → Contains holds hold → MadeBy release_home release_source plan v hold.handle
 
 -- one of these holds has that name, and is on this version
-abbrev pub HoldsAs : Round → List LaneHold → List ℕ → Edition → Type 0
-HoldsAs round holds name edition =
+abbrev pub LaneHoldsAs : Round → List LaneHold → List ℕ → Edition → Type 0
+LaneHoldsAs round holds name edition =
     (hold : LaneHold) × Contains holds hold × (hold.name ≡ name) × (edition ≡ newest_at round hold.handle.position)
 
 -- one of these holds is on a version in that slot

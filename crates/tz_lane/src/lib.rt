@@ -53,6 +53,7 @@ pub use looks::{list, look};
 pub use lookups::{look_up_front, look_up_held};
 pub use pins::{hold, let_go};
 pub use reloads::reload;
+pub use rounds::operations_in;
 pub use told::Told;
 
 #[cfg(test)]

@@ -7,7 +7,7 @@ ghost use Rattle.tz_version.specs.declared.sources.Sources.{Sources as DeclaredS
 ghost use Rattle.tz_batch.specs.Answering.{AnswersLook, AnswersList};
 ghost use Rattle.tz_batch.specs.Run.{TellsKept};
 ghost use Rattle.tz_list.specs.Reload.{release_home, release_source};
-ghost use Rattle.tz_lane.specs.Counting.{Counts};
+ghost use Rattle.tz_lane.specs.Counting.{TalliesRise};
 ghost use Rattle.tz_lane.specs.Meeting.{lane_round, Meets, MeetsQuietly};
 
 use crate::told::Told;
@@ -25,7 +25,7 @@ pub fn look(reader: &mut ListReader<'_>) -> Told
     ensures kept { (sources : DeclaredSources) (begun : ℕ) → TellsKept (lane_round (plan reader.old.table.now) sources begun (reader_view reader.new)) result.w result.answer }
     ensures loads { (reader_view reader.new).loads ≡ (reader_view reader.old).loads + 1 }
     ensures taken { (reader_view reader.new).taken ≡ (reader_view reader.old).taken }
-    ensures counts { Counts (reader_view reader.old) (reader_view reader.new) 1 0 }
+    ensures counts { TalliesRise (reader_view reader.old) (reader_view reader.new) 1 0 }
     ensures entries { (reader_view reader.new).entries ≡ (reader_view reader.old).entries }
     ensures handles { KeepsHandles release_home release_source reader.old reader.new }
     ensures table { reader.new.table.now ≡ reader.old.table.now }
@@ -60,7 +60,7 @@ pub fn list<R: Wait>(rt: &R, alloc: Global, reader: &mut ListReader<'_>) -> Resu
     ensures quiet { MeetsQuietly (reader_view reader.old) (reader_view reader.new) }
     ensures loads { (reader_view reader.new).loads ≡ (reader_view reader.old).loads }
     ensures taken { (reader_view reader.new).taken ≡ (reader_view reader.old).taken + 1 }
-    ensures counts { Counts (reader_view reader.old) (reader_view reader.new) 0 1 }
+    ensures counts { TalliesRise (reader_view reader.old) (reader_view reader.new) 0 1 }
     ensures entries { (reader_view reader.new).entries ≡ (reader_view reader.old).entries }
     ensures handles { KeepsHandles release_home release_source reader.old reader.new }
     ensures table { reader.new.table.now ≡ reader.old.table.now }

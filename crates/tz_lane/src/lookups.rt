@@ -8,7 +8,7 @@ ghost use Rattle.pin_table.specs.Table.{plan};
 ghost use Rattle.tz_script.specs.Size.{IsSized};
 ghost use Rattle.tz_batch.specs.Run.{TellsKept};
 ghost use Rattle.tz_list.specs.Reload.{release_home, release_source};
-ghost use Rattle.tz_lane.specs.Counting.{Counts};
+ghost use Rattle.tz_lane.specs.Counting.{TalliesRise};
 ghost use Rattle.tz_lane.specs.LaneLookup.{is_lookup, IsOnHandle, AnswersOnFrontAt};
 ghost use Rattle.tz_lane.specs.Meeting.{lane_round, Meets};
 
@@ -41,7 +41,7 @@ pub fn look_up_front(alloc: Global, reader: &mut ListReader<'_>, op: &Op) -> Tol
     ensures meets { Meets (plan reader.old.table.now).slots (reader_view reader.old) [] (reader_view reader.new) result.w }
     ensures answer { (begun : ℕ) → AnswersOnFrontAt (lane_round (plan reader.old.table.now) (release_home (plan reader.old.table.now).first) begun (reader_view reader.new)) op.now result.w result.answer }
     ensures kept { (begun : ℕ) → TellsKept (lane_round (plan reader.old.table.now) (release_home (plan reader.old.table.now).first) begun (reader_view reader.new)) result.w result.answer }
-    ensures counts { Counts (reader_view reader.old) (reader_view reader.new) 1 0 }
+    ensures counts { TalliesRise (reader_view reader.old) (reader_view reader.new) 1 0 }
     ensures entries { IsPermutation (reader_view reader.old).entries (reader_view reader.new).entries }
     ensures handles { KeepsHandles release_home release_source reader.old reader.new }
     ensures table { reader.new.table.now ≡ reader.old.table.now }
@@ -66,7 +66,7 @@ pub fn look_up_held(
     ensures meets { Meets (plan reader.old.table.now).slots (reader_view reader.old) [] (reader_view reader.new) result.w }
     ensures answer { (begun : ℕ) → AnswersOnFrontAt (lane_round (plan reader.old.table.now) (release_home (plan reader.old.table.now).first) begun (reader_view reader.new)) op.now handle.now.position result.answer }
     ensures kept { (begun : ℕ) → TellsKept (lane_round (plan reader.old.table.now) (release_home (plan reader.old.table.now).first) begun (reader_view reader.new)) result.w result.answer }
-    ensures counts { Counts (reader_view reader.old) (reader_view reader.new) 1 0 }
+    ensures counts { TalliesRise (reader_view reader.old) (reader_view reader.new) 1 0 }
     ensures entries { (reader_view reader.new).entries ≡ (reader_view reader.old).entries }
     ensures handles { KeepsHandles release_home release_source reader.old reader.new }
     ensures table { reader.new.table.now ≡ reader.old.table.now }

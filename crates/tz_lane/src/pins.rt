@@ -10,7 +10,7 @@ ghost use Rattle.tz_version.specs.Release.{Release};
 ghost use Rattle.tz_batch.specs.Answering.{AnswersHold};
 ghost use Rattle.tz_batch.specs.Run.{TellsKept};
 ghost use Rattle.tz_list.specs.Reload.{release_home, release_source};
-ghost use Rattle.tz_lane.specs.Counting.{Counts};
+ghost use Rattle.tz_lane.specs.Counting.{TalliesRise};
 ghost use Rattle.tz_lane.specs.Meeting.{lane_round, Meets};
 ghost use Rattle.tz_lane.specs.Pins.{AnswersDropOf, IsLeft};
 
@@ -30,7 +30,7 @@ pub fn hold(reader: &mut ListReader<'_>) -> (Told, ListHandle)
     ensures added { (reader_view reader.new).entries ≡ (reader_view reader.old).entries ++ pin_of result.1 ∷ [] }
     ensures loads { (reader_view reader.old).loads + 1 ≤ (reader_view reader.new).loads }
     ensures taken { (reader_view reader.new).taken ≡ (reader_view reader.old).taken }
-    ensures counts { Counts (reader_view reader.old) (reader_view reader.new) 1 0 }
+    ensures counts { TalliesRise (reader_view reader.old) (reader_view reader.new) 1 0 }
     ensures handles { KeepsHandles release_home release_source reader.old reader.new }
     ensures table { reader.new.table.now ≡ reader.old.table.now }
     ensures number { reader.new.number ≡ reader.old.number }
@@ -58,7 +58,7 @@ pub fn let_go(reader: &mut ListReader<'_>, handle: ListHandle) -> Told
     ensures left { IsLeft (reader_view reader.old).entries (pin_of handle) (reader_view reader.new).entries }
     ensures loads { (reader_view reader.new).loads ≡ (reader_view reader.old).loads + 1 }
     ensures taken { (reader_view reader.new).taken ≡ (reader_view reader.old).taken }
-    ensures counts { Counts (reader_view reader.old) (reader_view reader.new) 1 0 }
+    ensures counts { TalliesRise (reader_view reader.old) (reader_view reader.new) 1 0 }
     ensures others { (other : Handle Release) → MadeBy release_home release_source (plan reader.old.table.now) (reader_view reader.old) other → Contains (reader_view reader.new).entries (pin_of other) → MadeBy release_home release_source (plan reader.new.table.now) (reader_view reader.new) other }
     ensures table { reader.new.table.now ≡ reader.old.table.now }
     ensures number { reader.new.number ≡ reader.old.number }

@@ -3,7 +3,7 @@ ghost use Rattle.std.specs.Prelude.{◌≡◌, ℕ, ◌<◌, ◌≤◌, nat_lt, 
 ghost use Rattle.tz_script.specs.Inside.{RoundsDontFall};
 ghost use Rattle.tz_script.specs.declared.limit.TheConstants.{MOST_ROUNDS};
 ghost use Rattle.tz_script.specs.declared.operation.Operation.{Operation as DeclaredOperation};
-ghost use Rattle.tz_lane.specs.Lane.{lane_operations};
+ghost use Rattle.tz_lane.specs.Lane.{lane_operations, round_operations};
 ghost use Rattle.tz_lane.specs.Parts.{StandTogether};
 
 use tz_script::{Operation, Script};
@@ -23,8 +23,9 @@ fn count_before(operations: &[Operation], round: u32) -> usize
 }
 
 /// The operations of a round, which stand together in the script. It takes two searches, whatever the script's length.
-pub(crate) fn operations_in(script: &Script, round: u32) -> &[Operation]
+pub fn operations_in(script: &Script, round: u32) -> &[Operation]
     requires { round ≤ MOST_ROUNDS }
+    ensures is { result.now ≡ round_operations round script.now.operations }
     ensures part { StandTogether script.now.operations result.now }
     ensures whole { (lane : ℕ) → lane_operations lane round result.now ≡ lane_operations lane round script.now.operations }
 {

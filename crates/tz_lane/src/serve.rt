@@ -12,7 +12,7 @@ ghost use Rattle.tz_list.specs.Reload.{release_home};
 ghost use Rattle.tz_lane.specs.Holding.{names_of, AreHeld};
 ghost use Rattle.tz_lane.specs.LaneLookup.{is_lookup, pick_asked};
 ghost use Rattle.tz_lane.specs.Meeting.{MeetsQuietly};
-ghost use Rattle.tz_lane.specs.Serving.{Serves};
+ghost use Rattle.tz_lane.specs.Serving.{ServesInLane};
 
 use crate::erasures::{erase_front, erase_held};
 use crate::lane_hold::LaneHold;
@@ -37,7 +37,7 @@ fn begin_hold(
 ) -> Told
     requires stands { may_stand (names_of holds.old) (ops.Hold name.now) ≡ true }
     requires held { AreHeld (plan reader.old.table.now) (reader_view reader.old) holds.old }
-    ensures served { (sources : DeclaredSources) → Serves (plan reader.old.table.now) sources reader.old.number (reader_view reader.old) holds.old line (ops.Hold name.now) result (reader_view reader.new) holds.new }
+    ensures served { (sources : DeclaredSources) → ServesInLane (plan reader.old.table.now) sources reader.old.number (reader_view reader.old) holds.old line (ops.Hold name.now) result (reader_view reader.new) holds.new }
     ensures held { AreHeld (plan reader.new.table.now) (reader_view reader.new) holds.new }
     ensures table { reader.new.table.now ≡ reader.old.table.now }
     ensures number { reader.new.number ≡ reader.old.number }
@@ -55,7 +55,7 @@ fn begin_hold(
 fn end_hold(reader: &mut ListReader<'_>, holds: &mut LaneHolds, name: &HoldName) -> Told
     requires stands { may_stand (names_of holds.old) (ops.Drop name.now) ≡ true }
     requires held { AreHeld (plan reader.old.table.now) (reader_view reader.old) holds.old }
-    ensures served { (sources : DeclaredSources) (line : ℕ) → Serves (plan reader.old.table.now) sources reader.old.number (reader_view reader.old) holds.old line (ops.Drop name.now) result (reader_view reader.new) holds.new }
+    ensures served { (sources : DeclaredSources) (line : ℕ) → ServesInLane (plan reader.old.table.now) sources reader.old.number (reader_view reader.old) holds.old line (ops.Drop name.now) result (reader_view reader.new) holds.new }
     ensures held { AreHeld (plan reader.new.table.now) (reader_view reader.new) holds.new }
     ensures table { reader.new.table.now ≡ reader.old.table.now }
     ensures number { reader.new.number ≡ reader.old.number }
@@ -82,7 +82,7 @@ fn look_up(
     requires stands { may_stand (names_of holds.now) op.now ≡ true }
     requires few { length holds.now ≤ MOST_HOLDS }
     requires held { AreHeld (plan reader.old.table.now) (reader_view reader.old) holds.now }
-    ensures served { (line : ℕ) → Serves (plan reader.old.table.now) (release_home (plan reader.old.table.now).first) reader.old.number (reader_view reader.old) holds.now line op.now result (reader_view reader.new) holds.now }
+    ensures served { (line : ℕ) → ServesInLane (plan reader.old.table.now) (release_home (plan reader.old.table.now).first) reader.old.number (reader_view reader.old) holds.now line op.now result (reader_view reader.new) holds.now }
     ensures held { AreHeld (plan reader.new.table.now) (reader_view reader.new) holds.now }
     ensures table { reader.new.table.now ≡ reader.old.table.now }
     ensures number { reader.new.number ≡ reader.old.number }
@@ -99,7 +99,7 @@ fn erase<R: Wait>(rt: &R, reader: &mut ListReader<'_>, holds: &LaneHolds, pick: 
     requires stands { may_stand (names_of holds.now) (ops.Erase pick.now) ≡ true }
     requires few { length holds.now ≤ MOST_HOLDS }
     requires held { AreHeld (plan reader.old.table.now) (reader_view reader.old) holds.now }
-    ensures served { (sources : DeclaredSources) (line : ℕ) → Serves (plan reader.old.table.now) sources reader.old.number (reader_view reader.old) holds.now line (ops.Erase pick.now) result (reader_view reader.new) holds.now }
+    ensures served { (sources : DeclaredSources) (line : ℕ) → ServesInLane (plan reader.old.table.now) sources reader.old.number (reader_view reader.old) holds.now line (ops.Erase pick.now) result (reader_view reader.new) holds.now }
     ensures held { AreHeld (plan reader.new.table.now) (reader_view reader.new) holds.now }
     ensures table { reader.new.table.now ≡ reader.old.table.now }
     ensures number { reader.new.number ≡ reader.old.number }
@@ -127,7 +127,7 @@ pub(crate) fn serve<R: Wait>(
     requires stands { may_stand (names_of holds.old) op.now ≡ true }
     requires few { length holds.old ≤ MOST_HOLDS }
     requires held { AreHeld (plan reader.old.table.now) (reader_view reader.old) holds.old }
-    ensures served { IfOk result (λ told. Serves (plan reader.old.table.now) tzdb.now.sources reader.old.number (reader_view reader.old) holds.old line op.now told (reader_view reader.new) holds.new) }
+    ensures served { IfOk result (λ told. ServesInLane (plan reader.old.table.now) tzdb.now.sources reader.old.number (reader_view reader.old) holds.old line op.now told (reader_view reader.new) holds.new) }
     ensures failed { OnErr result (MeetsQuietly (reader_view reader.old) (reader_view reader.new)) }
     ensures held { AreHeld (plan reader.new.table.now) (reader_view reader.new) holds.new }
     ensures table { reader.new.table.now ≡ reader.old.table.now }

@@ -6,7 +6,7 @@ use Rattle.tz_script.specs.declared.operation.Op.TheVariants as ops
 use Rattle.tz_script.specs.declared.operation.Pick.{Pick}
 use Rattle.tz_script.specs.declared.operation.Pick.TheVariants.{Front, Held}
 use Rattle.tz_lane.specs.Meeting.{lane_round}
-use Rattle.tz_lane.specs.Serving.{Serves}
+use Rattle.tz_lane.specs.Serving.{ServesInLane}
 use Rattle.tz_lane.proofs.Names.{needs_held}
 use Rattle.tz_lane.proofs.Serving.{serves_erase, erase_held_right, erase_front_right, held_still, held_same, entries_count}
 use Rattle.tz_lane.proofs.serve.erase.Goals as goal
@@ -23,7 +23,7 @@ erase_held-requires-clause-made g c = c.requires.held.made c.named.result.now c.
 
 pub returns-in-Front-clause-served : goal.returns-in-Front-clause-served
 returns-in-Front-clause-served g c sources line = let reader = c.args.reader.now in let now = c.erase_front.new.reader in let told = c.erase_front.result in let held = c.args.holds.now in
-    subst (λ (pick : Pick). Serves (plan reader.table.now) sources reader.number (reader_view reader) held line (ops.Erase pick) told (reader_view now) held) (sym c.in-Front.is)
+    subst (λ (pick : Pick). ServesInLane (plan reader.table.now) sources reader.number (reader_view reader) held line (ops.Erase pick) told (reader_view now) held) (sym c.in-Front.is)
     (serves_erase (plan reader.table.now) sources reader.number (reader_view reader) held line Front told (reader_view now) c.erase_front.ensures.erases
     (λ begun. erase_front_right (lane_round (plan reader.table.now) sources begun (reader_view now)) _ held told.w told.answer (c.erase_front.ensures.erases.meets Front).to (c.erase_front.ensures.answer sources begun)))
 
@@ -33,7 +33,7 @@ returns-in-Front-clause-held g c = let reader = c.args.reader.now in let now = c
 
 pub returns-in-Held-clause-served : goal.returns-in-Held-clause-served
 returns-in-Held-clause-served g c sources line = let reader = c.args.reader.now in let now = c.erase_held.new.reader in let told = c.erase_held.result in let held = c.args.holds.now in
-    subst (λ (pick : Pick). Serves (plan reader.table.now) sources reader.number (reader_view reader) held line (ops.Erase pick) told (reader_view now) held) (sym c.in-Held.is)
+    subst (λ (pick : Pick). ServesInLane (plan reader.table.now) sources reader.number (reader_view reader) held line (ops.Erase pick) told (reader_view now) held) (sym c.in-Held.is)
     (serves_erase (plan reader.table.now) sources reader.number (reader_view reader) held line (Held _) told (reader_view now) c.erase_held.ensures.erases
     (λ begun. erase_held_right (lane_round (plan reader.table.now) sources begun (reader_view now)) (length (reader_view reader).seen) held _ c.named.result.now told.w told.answer c.named.ensures.open c.named.ensures.name (c.erase_held.ensures.answer sources begun)))
 
