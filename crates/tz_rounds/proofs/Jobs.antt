@@ -1,5 +1,5 @@
 -- The jobs of a round, as its readers go out.
-use Rattle.std.proofs.Common.{◌≡◌, ℕ, zero, suc, ◌+◌, ◌≤◌, ◌<◌, ◌==◌, ◌⊎◌, ⊎_elim, inl, inr, Bool, true, false, ◌&&◌, cond, List, [], ◌∷◌, ◌++◌, length, refl, sym, ap, subst, arith}
+use Rattle.std.proofs.Common.{◌≡◌, ℕ, zero, suc, ◌+◌, ◌≤◌, ◌<◌, ◌==◌, ◌⊎◌, ⊎_elim, inl, inr, Bool, true, false, ◌&&◌, cond, List, [], ◌∷◌, ◌++◌, length, refl, sym, ap, subst, ◌∙◌, arith}
 use Rattle.std.specs.Prelude.{Some, slice_get}
 use Rattle.std.proofs.lemmas.Bool.{and_parts, and_right, eqb-true}
 use Rattle.std.proofs.lemmas.List.Sums.{sum_by-cons}
@@ -8,7 +8,7 @@ use Rattle.tz_script.specs.Inside.{change_count}
 use Rattle.tz_script.specs.Operation.{is_change}
 use Rattle.tz_script.specs.declared.operation.Operation.{Operation}
 use Rattle.pin_core.specs.declared.view.View.{View}
-use Rattle.pin_core.specs.Core.{times}
+use Rattle.pin_core.specs.Core.{times, IsReader}
 use Rattle.pin_table.specs.Numbers.{SplitsLeast}
 use Rattle.pin_table.specs.Reader.{reader_view}
 use Rattle.tz_rounds.specs.Jobs.{lane_changes, IsJob, AreJobs}
@@ -64,6 +64,13 @@ jobs_more operations main jobs job are is number one there =
     subst (λ (n : ℕ). IsJob operations main n one) (sym new.0) (subst (IsJob operations main (length jobs)) new.1 is))
     (in_more jobs job number one there)
 
+-- a reader that has one number alone is that number's
+only_number : (number sent : ℕ) (v : View) → IsReader number v → v.numbers ≡ sent ∷ [] → number ≡ sent
+only_number number sent v is only = same_first (sym is.1 ∙ only)
+  where
+    same_first : number ∷ [] ≡ sent ∷ [] → number ≡ sent
+    same_first same = cc
+
 -- What holds once one more reader is out.
 pub record SentMore (sent lanes : ℕ) (operations : List Operation) (main now later : View) (jobs : List LaneJob) : Type 0 where
   pub left : HasSent (sent + 1) lanes main later
@@ -78,8 +85,10 @@ pub sent_more : (sent lanes readers writes : ℕ) (operations : List Operation) 
 sent_more sent lanes readers writes operations main now later jobs job same left are long low count room splits lane =
     let fitting : SplitsLeast lanes writes now later (reader_view job.reader) = subst (λ (n : ℕ). SplitsLeast n writes now later (reader_view job.reader)) (sym same) splits in
     let out = goes_out sent lanes writes main now later (reader_view job.reader) left low fitting in
+    let number : job.reader.number ≡ sent = only_number job.reader.number sent (reader_view job.reader) job.reader.reader out.0.numbers in
     let job_is : IsJob operations main sent job = record {
       lane = lane;
+      number_is = number;
       out = subst (λ (n : ℕ). GoesOut sent n main (reader_view job.reader)) count out.0;
     } in
     record {

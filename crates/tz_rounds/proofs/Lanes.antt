@@ -36,7 +36,7 @@ module _ {P : Type 0} (plan : Plan P) (batch : Batch) (rounds : ℕ) (main : Vie
   -- ---- the round ----
 
   -- the operation in its round
-  turn : Turn plan batch.sources batch.outcome.journal before later here
+  pub turn : Turn plan batch.sources batch.outcome.journal before later here
   turn =
       let whole = ran.whole in
       let seen : take (length main.seen) batch.outcome.journal ≡ main.seen = ap (take (length main.seen)) (sym whole.seen) ∙ take-length main.seen in
@@ -46,10 +46,10 @@ module _ {P : Type 0} (plan : Plan P) (batch : Batch) (rounds : ℕ) (main : Vie
       (told_all_at_last plan batch.sources rounds (answered batch) main batch.outcome.journal ran.ran whole) writers before later here is
 
   -- all operations of the round
-  abbrev those : List Answered
+  abbrev pub those : List Answered
   those = turn.front ++ here ∷ turn.behind
 
-  inside : IsOfRound plan.readers round here
+  pub inside : IsOfRound plan.readers round here
   inside = All-contains (IsOfRound plan.readers round) those here turn.ran.inside (stands_there turn.front turn.behind here)
 
   all_parts : answered batch ≡ turn.earlier ++ (those ++ turn.rest)
@@ -69,7 +69,7 @@ module _ {P : Type 0} (plan : Plan P) (batch : Batch) (rounds : ℕ) (main : Vie
 
   -- ---- the lane ----
 
-  ran_lane : RanLane plan batch.sources (lane - 1) (of_lane lane those) turn.main turn.main'
+  pub ran_lane : RanLane plan batch.sources (lane - 1) (of_lane lane those) turn.main turn.main'
   ran_lane =
       subst (λ (l : ℕ). RanLane plan batch.sources (lane - 1) (of_lane l those) turn.main turn.main') (lane_number lane inside.some)
       (turn.ran.lanes (lane - 1) (omega (arith, inside.some, inside.few)))
@@ -84,7 +84,7 @@ module _ {P : Type 0} (plan : Plan P) (batch : Batch) (rounds : ℕ) (main : Vie
       ∙ ap (λ (xs : List Answered). own ++ xs) (cond-true (lane == lane) (here ∷ of_lane lane turn.behind) (of_lane lane turn.behind) (eq-eqb lane lane refl))
 
   -- the round as the lane knows it, and as it is
-  abbrev known : Round
+  abbrev pub known : Round
   known = lane_round plan batch.sources (length ran_lane.out.seen) ran_lane.back
 
   abbrev whole_round : Round

@@ -6,7 +6,16 @@ pub mod Told
 pub mod Written
 pub mod Turns
 pub mod Lanes
+pub mod OneLane
 pub mod OutAndBack
 pub mod Jobs
 pub mod Backs
+pub mod Merged
 pub mod Assembly
+pub mod Places
+pub mod UpTo
+pub mod RoundRan
+pub mod ScriptRun
+pub mod Joinable
+pub mod LaneParts
+pub mod Errors

@@ -97,7 +97,7 @@ filter_none test (x ∷ xs) all =
     ∙ filter_none test xs (All-tail (λ y. test y ≡ false) x xs all)
 
 -- two filters are one
-filter_twice : {A : Type 0} (f g : A → Bool) (xs : List A) → filter f (filter g xs) ≡ filter (λ x. g x && f x) xs
+pub filter_twice : {A : Type 0} (f g : A → Bool) (xs : List A) → filter f (filter g xs) ≡ filter (λ x. g x && f x) xs
 filter_twice f g [] = refl
 filter_twice {A} f g (x ∷ xs) =
     let rest : List A = filter (λ y. g y && f y) xs in

@@ -67,16 +67,6 @@ least_first sent readers writes main main' reader has low splits =
 
 -- ---- a reader goes out ----
 
--- before the first
-pub is_left_first : (readers : ℕ) (main : View) → HasNumbers 0 readers main → HasSent 0 readers main main
-is_left_first readers main has = record {
-  numbers = has;
-  seen = refl;
-  floor = λ some. absurd (omega (arith, some));
-  own = λ number low. refl;
-  none = λ number low. absurd (omega (arith, low));
-}
-
 -- the floor of those that go out
 floor_then : (sent readers : ℕ) (main now : View) → HasSent sent readers main now → sent < readers → (if_all : Bool) → (length now.numbers == readers) ≡ if_all → cond if_all (length now.seen) now.floor ≡ length main.seen
 floor_then sent readers main now left low true is = ap length left.seen

@@ -12,7 +12,7 @@ use Rattle.tz_script.specs.declared.operation.Pick.{Pick}
 use Rattle.pin_book.specs.declared.write.Write.{Write}
 use Rattle.pin_book.specs.Replay.{Edition}
 use Rattle.pin_book.specs.Sequence.{writes_by}
-use Rattle.tz_batch.specs.Answering.{AnswersLook, AnswersHold, AnswersDrop, AnswersReload, AnswersErase, AnswersList, AnswersLookup, Answers}
+use Rattle.tz_batch.specs.Answering.{AnswersLook, AnswersHold, AnswersDrop, AnswersReload, AnswersErase, AnswersList, AnswersLookup, AnswersOp}
 use Rattle.tz_batch.specs.Batch.{Answered, tells_write}
 use Rattle.tz_batch.specs.Round.{Round}
 use Rattle.tz_batch.specs.Run.{PlacedChange, change_told, change_told_in}
@@ -168,7 +168,7 @@ erase_tells round last holds line number lane place pick (suc w) (answers.Erased
 erase_tells round last holds line number lane place pick w _ right = absurd right
 
 -- A right answer tells of a write where its reply does.
-pub answer_tells : (round : Round) (last : ℕ) (holds : List ℕ → Edition → Type 0) (line number lane place : ℕ) (op : Op) (w : ℕ) (answer : Answer) → Answers round last holds op w answer → TellsAsAnswered (record { operation = record { line = line; round = number; lane = lane; op = op }; reply = record { line = place; w = w; answer = answer } })
+pub answer_tells : (round : Round) (last : ℕ) (holds : List ℕ → Edition → Type 0) (line number lane place : ℕ) (op : Op) (w : ℕ) (answer : Answer) → AnswersOp round last holds op w answer → TellsAsAnswered (record { operation = record { line = line; round = number; lane = lane; op = op }; reply = record { line = place; w = w; answer = answer } })
 answer_tells round last holds line number lane place ops.Look w answer right = look_tells round last holds line number lane place w answer right
 answer_tells round last holds line number lane place (ops.Hold name) w answer right = hold_tells round last holds line number lane place w name answer right
 answer_tells round last holds line number lane place (ops.Drop name) w answer right = drop_tells round last holds line number lane place w name answer right

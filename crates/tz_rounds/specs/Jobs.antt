@@ -15,6 +15,7 @@ lane_changes lane operations =
 -- the job of the lane of a number, whose reader went out from a main that knew this, with so many writes
 pub record IsJob (operations : List Operation) (main : View) (number : ℕ) (job : LaneJob) : Type 0 where
   pub lane : job.lane ≡ number + 1
+  pub number_is : job.reader.number ≡ number
   pub out : GoesOut number (lane_changes (number + 1) operations) main (reader_view job.reader)
 
 -- jobs of the lanes from the first one on

@@ -1,5 +1,5 @@
 //! The readers of a round come back, and are joined.
-ghost use Rattle.std.specs.Prelude.{◌≡◌, ℕ, Ok, Some, All, map, slice_get, IfOk, IsOk, length};
+ghost use Rattle.std.specs.Prelude.{◌≡◌, ◌≤◌, ℕ, Ok, Some, All, map, slice_get, IfOk, IsOk, length};
 ghost use Rattle.pin_core.specs.declared.view.View.{View};
 ghost use Rattle.pin_table.specs.Main.{main_view};
 ghost use Rattle.pin_table.specs.Table.{IsMainOf};
@@ -33,6 +33,7 @@ pub(crate) fn take_back(
     requires table { All (λ run. run.reader.table.now ≡ table.now) runs.items }
     requires joinable { (number : ℕ) (run : DeclaredRun) → slice_get runs.items number ≡ Some run → IsOk run.replies → IsJoinable number (back_view run) }
     ensures own { IsMainOf table.now main.new }
+    ensures room { (main_view main.old).allowance ≤ (main_view main.new).allowance }
     ensures replies { IfOk result (λ replies. map (λ run. run.replies) runs.entry.items ≡ map Ok replies.items) }
     ensures back { IfOk result (λ replies. (first : View) → HasSent (length runs.entry.items) (length runs.entry.items) first (main_view main.old) → HasBack (length runs.entry.items) first (map back_view runs.entry.items) (main_view main.new)) }
 {

@@ -1,10 +1,11 @@
 -- One reader after another is joined.
-use Rattle.std.proofs.Common.{◌≡◌, ℕ, ◌<◌, List, [], ◌∷◌, ◌++◌, length, get_or, map, Ok, Some, IsOk, slice_get, sym, ap, ap₂, ◌∙◌, rules}
+use Rattle.std.proofs.Common.{◌≡◌, ℕ, ◌<◌, List, [], ◌∷◌, ◌++◌, length, get_or, map, Ok, Some, IsOk, slice_get, sym, ap, ap₂, ◌∙◌, arith, rules}
 use Rattle.std.proofs.lemmas.Iterator.Adapters.{YieldsList-from_vec}
 use Rattle.std.proofs.lemmas.Iterator.Consumers.{YieldsList-turn}
 use Rattle.std.proofs.lemmas.List.{map-append}
 use Rattle.std.proofs.lemmas.Option.{slice_get-get_or}
 use Rattle.std.specs.declared.result.Result.{Result}
+use Rattle.pin_core.specs.declared.view.View.{View}
 use Rattle.pin_table.specs.Main.{main_view}
 use Rattle.tz_types.specs.declared.list.Items.{Items}
 use Rattle.tz_types.specs.declared.memory.NoMemory.{NoMemory}
@@ -55,6 +56,7 @@ loop-run-preserved c =
     ap (λ (run : LaneRun). run.reader.table.now) turn.1 ∙ c.requires.table (length c.loop-run.yielded) c.in-Some.run' turn.0 in
     record {
       own = rw (← table) c.join.ensures.own;
+      room = omega (arith, c.loop-run.invariant.room, ap (λ (v : View). v.allowance) c.join.ensures.joined);
       replies = replies_more c.loop-run.yielded c.in-Some.run' c.loop-run.all.items c.in_ok-replies.replies c.loop-run.invariant.replies c.in_ok-replies.was
           ∙ ap (map Ok) (sym c.in_ok-push.ensures.items);
       back = λ first left. back_more (length c.args.runs.items) first (main_view c.loop-run.main) (main_view c.join.new.self) c.loop-run.yielded c.in-Some.run'
