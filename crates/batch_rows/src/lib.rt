@@ -1,4 +1,4 @@
-//! Tests of batches: worked scripts, generated ones, faults of files and sinks, and limits in bytes.
+//! Tests of batches: worked scripts, lanes side by side, generated scripts, faults of files and sinks, and limits in bytes.
 #![tactic(auto)]
 
 #[cfg(test)]
@@ -9,6 +9,8 @@ mod commands;
 mod faults;
 #[cfg(test)]
 mod generated;
+#[cfg(test)]
+mod lanes;
 #[cfg(test)]
 mod outside;
 #[cfg(test)]

@@ -6,7 +6,7 @@ use std::process::Abort;
 use std::sync::Wait;
 use std::thread::Threads;
 use tz_io::{MemoryFiles, MemorySink};
-use tz_run::OpenGate;
+use tz_lane::OpenGate;
 use tz_top::run as run_command;
 use tz_words::Status;
 

@@ -85,11 +85,26 @@ round
 1 reload 2
 ";
 
+/// Three of sixteen lanes look beside each other in the first round and in the third; one of them reloads alone in between.
+const APART: &str = "\
+lanes 16
+round
+1 look
+16 hold a
+3 list
+16 drop a
+round
+16 reload 1
+round
+3 look
+1 look
+";
+
 /// One look.
 pub const LOOK: &str = "lanes 1\nround\n1 look\n";
 
 /// The scripts, and a text that is refused: no month is called so.
-pub const SCRIPTS: [(&str, &str); 13] = [
+pub const SCRIPTS: [(&str, &str); 15] = [
     ("ju", "Rule X 2000 only - Ju 1 0 0 -\n"),
     ("S1", S1),
     ("S2", S2),
@@ -101,6 +116,8 @@ pub const SCRIPTS: [(&str, &str); 13] = [
     ("all", ALL),
     ("undropped", "lanes 1\nround\n1 drop a\n"),
     ("open", "lanes 1\nround\n1 hold a\n"),
-    ("lanes", "lanes 2\nround\n1 look\n"),
+    ("lanes", "lanes 17\nround\n1 look\n"),
     ("none", "lanes 1\n"),
+    ("apart", APART),
+    ("G3", "lanes 2\nround\n1 reload 1\n2 reload 1\n"),
 ];

@@ -10,7 +10,7 @@ use std::sync::Wait;
 use std::thread::Threads;
 use std::{env, io};
 use tz_io::{RealFiles, RealSink};
-use tz_run::OpenGate;
+use tz_lane::OpenGate;
 use tz_top::run;
 use tz_words::Status;
 

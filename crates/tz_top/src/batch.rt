@@ -9,14 +9,15 @@ use crate::outcome::batch_text;
 use crate::texts::read_texts;
 use std::alloc::Global;
 use std::sync::Wait;
+use std::thread::Threads;
 use tz_cli::{Refusal, print, print_refusal};
 use tz_io::{Files, Sink};
-use tz_run::Gate;
+use tz_lane::Gate;
 use tz_words::{BatchLine, Status};
 
 /// What a batch comes to.
 fn answer<F: Files, G: Gate>(
-    rt: &impl Wait,
+    rt: &(impl Threads + Wait + Sync),
     alloc: Global,
     line: BatchLine<'_>,
     files: &mut F,
@@ -34,7 +35,7 @@ fn answer<F: Files, G: Gate>(
 /// Does a batch: prints the text of its outcome or the line of its refusal, and answers the status. The text is made
 /// whole before any of it is printed.
 pub fn run_batch<F: Files, S: Sink, G: Gate>(
-    rt: &impl Wait,
+    rt: &(impl Threads + Wait + Sync),
     alloc: Global,
     line: BatchLine<'_>,
     files: &mut F,

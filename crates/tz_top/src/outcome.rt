@@ -14,9 +14,11 @@ ghost use Rattle.tz_top.specs.Refusal.{RefusesAsScript, RefusesToOpen};
 use crate::texts::BatchTexts;
 use std::alloc::Global;
 use std::sync::{Arc, Wait};
+use std::thread::Threads;
 use tz_batch::{Outcome, outcome_text};
 use tz_cli::Refusal;
-use tz_run::{Gate, run_script};
+use tz_lane::Gate;
+use tz_rounds::run_script;
 use tz_script::{Script, ScriptError, read_script};
 use tz_types::Shared;
 use tz_version::{MakeError, Sources};
@@ -37,7 +39,7 @@ fn script_of(alloc: Global, text: &[u8], sources: u32) -> Result<Script, Refusal
 
 /// The outcome of a run of the script over these sources.
 fn outcome_of<G: Gate>(
-    rt: &impl Wait,
+    rt: &(impl Threads + Wait + Sync),
     alloc: Global,
     script: &Script,
     sources: &Shared<Sources>,
@@ -61,7 +63,7 @@ fn outcome_of<G: Gate>(
 
 /// What a batch prints over its texts: the text of its outcome.
 pub fn batch_text<G: Gate>(
-    rt: &impl Wait,
+    rt: &(impl Threads + Wait + Sync),
     alloc: Global,
     texts: BatchTexts,
     slots: u32,

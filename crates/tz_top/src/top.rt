@@ -21,7 +21,7 @@ use std::sync::Wait;
 use std::thread::Threads;
 use tz_cli::{Plain, run_plain};
 use tz_io::{Files, Sink};
-use tz_run::Gate;
+use tz_lane::Gate;
 use tz_words::{BatchLine, Status};
 
 /// Does a whole command, any that `run_plain` does or `batch`, and answers its status. `batch SCRIPT SLOTS LEAPS TEXT..`
