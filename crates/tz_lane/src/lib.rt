@@ -3,10 +3,10 @@
 //! `run_lane` does what a lane has to do in a round, on the lane's own reader, and answers one reply per operation. A `Gate`
 //! is passed before each of them. What that comes to stands in `RunsLane` (specs/Lane.antt).
 //!
-//! Each other call is one operation of a lane. It answers what a batch prints: a `Told`, the answer with its position. What a call leaves of the reader stands in `Meets` (specs/Meeting.antt): the journal that it
-//! has seen goes on from what it had seen, and the position is none before that. The answer is right by the definitions of
-//! `tz_batch`, over the round as the lane knows it (`lane_round`): its journal is what the reader has seen, and it starts
-//! at the reader's floor.
+//! Each other call is one operation of a lane. It answers what a batch prints: a `Told`, the answer with its position. What
+//! a call leaves of the reader stands in `Meets` (specs/Meeting.antt): the journal that it has seen goes on from what it had
+//! seen, and the position is none before that. The answer is right by the definitions of `tz_batch`, over the round as the
+//! lane knows it (`lane_round`): its journal is what the reader has seen, and it starts at the reader's floor.
 //!
 //! - `look` and `list` leave the reader's holds alone. `list` waits for its turn.
 //! - `hold` pins the front, and hands the handle out; `let_go` spends it. Neither waits for another thread.
@@ -18,7 +18,7 @@
 //!
 //! `LaneHolds` keeps the holds that are open, each with its handle, without taking memory.
 //!
-//! No command stands on this crate so far. It stands on `tz_list` for the list, and on `tz_batch` for answers.
+//! `tz_rounds` runs whole scripts by it. The crate stands on `tz_list` for the list, and on `tz_batch` for answers.
 //!
 //! ```rust
 //! // the list has one version, and `reader` was split off its main
